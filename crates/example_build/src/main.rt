@@ -200,9 +200,7 @@ fn close<L: Ledger>(
     tree: Tree<L>,
     ended: Ended<L>,
     follower: &Follower,
-) -> anyhow::Result<()>
-    requires { L.parts ≡ 256 }
-{
+) -> anyhow::Result<()> {
     let Ended { passes, logs } = ended;
     let mut audited = tree.finish(passes)?;
     check(rt, alloc, &mut audited, logs.as_slice(), follower)

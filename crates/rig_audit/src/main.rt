@@ -5,6 +5,7 @@
 #![tactic(auto)]
 
 use anyhow::Result;
+use bytes::Bytes;
 use eden_accumulate::Mount;
 use eden_globs::Filter;
 use eden_history::Change;
@@ -12,7 +13,7 @@ use eden_ids::{GitNaming, Id, Kind, Path, Sequence};
 use eden_messages::{Query, Request};
 use eden_objects::Store;
 use eden_query::{Served, reply_to};
-use eden_shared::{Answer, Audited, Call, CallLog, LogEntry, audit};
+use eden_shared::{Audited, Call, CallAnswer, CallLog, LogEntry, audit};
 use rig_kit::nanoseconds;
 use std::alloc::Global;
 use std::time::{CpuClock, Duration};
@@ -39,7 +40,7 @@ fn write(alloc: Global, turn: u64) -> Result<Change> {
     Ok(Change::Write {
         path: Path::parse(alloc, text.as_bytes())?,
         kind: Kind::Plain,
-        bytes: Sequence::new(alloc),
+        bytes: Bytes::new(),
     })
 }
 
@@ -59,17 +60,21 @@ fn poll(alloc: Global, audited: &Audited<GitNaming>, turn: u64) -> Request {
 }
 
 /// Makes a change, and gives it with its answer.
-fn change(alloc: Global, audited: &mut Audited<GitNaming>, turn: u64) -> Result<(Call, Answer)> {
+fn change(
+    alloc: Global,
+    audited: &mut Audited<GitNaming>,
+    turn: u64,
+) -> Result<(Call, CallAnswer)> {
     let change = write(alloc, turn)?;
     let answer = audited.apply(1, &change)?;
-    Ok((Call::Change(change), Answer::from(answer)))
+    Ok((Call::Change(change), CallAnswer::from(answer)))
 }
 
 /// Asks, and gives what was asked with its answer.
-fn ask(alloc: Global, audited: &mut Audited<GitNaming>, turn: u64) -> Result<(Call, Answer)> {
+fn ask(alloc: Global, audited: &mut Audited<GitNaming>, turn: u64) -> Result<(Call, CallAnswer)> {
     let request = poll(alloc, audited, turn);
     let reply = reply_to(audited, 1, &request)?;
-    Ok((Call::Ask(request), Answer::Replied(reply)))
+    Ok((Call::Ask(request), CallAnswer::Replied(reply)))
 }
 
 /// Makes the call of a turn, and notes it.
@@ -113,9 +118,8 @@ fn calls(alloc: Global, audited: &mut Audited<GitNaming>) -> Result<CallLog> {
     })
 }
 
-/// Audits logs, tells what the audit says, and what time the calls since a beginning and the audit
-/// took.
-fn tell(
+/// Audits logs, and prints what the audit says, and how long it and the calls since `begun` took.
+fn print_audit(
     rt: &HostRuntime,
     audited: &mut Audited<GitNaming>,
     logs: &[CallLog],
@@ -137,21 +141,21 @@ fn tell(
 }
 
 /// Audits the log of calls that began then.
-fn judge(
+fn audit_log(
     rt: &HostRuntime,
     audited: &mut Audited<GitNaming>,
     log: CallLog,
     begun: Duration,
 ) -> Result<()> {
     let logs = vec![in rt.alloc(); log]?;
-    tell(rt, audited, logs.as_slice(), begun)
+    print_audit(rt, audited, logs.as_slice(), begun)
 }
 
 /// Makes all calls, and judges them.
 fn measure(rt: &HostRuntime, audited: &mut Audited<GitNaming>) -> Result<()> {
     let begun = rt.thread_cpu_time()?;
     let log = calls(rt.alloc(), audited)?;
-    judge(rt, audited, log, begun)
+    audit_log(rt, audited, log, begun)
 }
 
 fn main(rt: HostRuntime) -> Result<()> {

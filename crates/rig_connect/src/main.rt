@@ -90,22 +90,22 @@ fn listed(reply: &Reply) -> u64 {
     }
 }
 
-/// What a client came to: how many paths it was told, and how many nanoseconds that took.
+/// How many paths or files a client got, and how many nanoseconds that took.
 #[derive(Clone, Copy)]
-struct Told {
+struct Measured {
     paths: u64,
     time: u64,
 }
 
-/// Polls one connection again and again: what the last poll told, and the least time.
+/// Polls one connection again and again: how many paths the last poll lists, and the least time.
 fn poll_alone<R: Net<Stream = TcpStream> + Clock>(
     rt: &R,
     alloc: Global,
     port: u16,
     frame: &[u8],
-) -> Option<Told> {
+) -> Option<Measured> {
     let stream = connect(rt, port)?;
-    let mut told = Told {
+    let mut measured = Measured {
         paths: 0,
         time: u64::MAX,
     };
@@ -113,12 +113,12 @@ fn poll_alone<R: Net<Stream = TcpStream> + Clock>(
         let start = Instant::now(rt).ok()?;
         let reply = ask(alloc, &stream, frame)?;
         let time = nanoseconds(start.elapsed(rt).ok()?);
-        told = Told {
+        measured = Measured {
             paths: listed(&reply),
-            time: told.time.min(time),
+            time: measured.time.min(time),
         };
     }
-    Some(told)
+    Some(measured)
 }
 
 /// Polls one connection so many times, and tells whether all were answered.
@@ -146,7 +146,7 @@ fn poll_together<R: Threads + Clock + Sync, P: Fn(u64) -> bool + Sync>(
     alloc: Global,
     connections: u64,
     poll: &P,
-) -> Option<Told>
+) -> Option<Measured>
     requires { P.IsAlwaysCallable poll.now }
 {
     let each = POLLS.checked_div(connections)?;
@@ -160,15 +160,15 @@ fn poll_together<R: Threads + Clock + Sync, P: Fn(u64) -> bool + Sync>(
     } else {
         0
     };
-    Some(Told { paths, time })
+    Some(Measured { paths, time })
 }
 
-/// Takes a basis and all contents: how many bytes are told of it, and how long it took.
+/// Takes a basis and all contents: how many files they are, and how long it took.
 fn take_basis<R: Net<Stream = TcpStream> + Clock>(
     rt: &R,
     alloc: Global,
     port: u16,
-) -> Option<Told> {
+) -> Option<Measured> {
     let _ready = connect(rt, port)?;
     let filter = Filter::all(alloc);
     let mut text = Vec::new(alloc);
@@ -178,7 +178,7 @@ fn take_basis<R: Net<Stream = TcpStream> + Clock>(
     let time = nanoseconds(start.elapsed(rt).ok()?);
     let paths = text.iter().filter(|byte| **byte == b'\n').count() as u64;
     ended.ok()?;
-    Some(Told {
+    Some(Measured {
         paths: paths.saturating_sub(2),
         time,
     })
@@ -197,12 +197,12 @@ fn stay_until<
 >(rt: &R, alloc: Global, port: u16, script: &[u8], lines: &[u8], ended: &AtomicBool) -> bool {
     let feed = Feed::new(rt, script, lines, b"".as_slice(), ended);
     let mut writer = Counted::new(Vec::new(alloc));
-    stay(rt, alloc, feed, &mut writer, port, 64).is_ok()
+    stay(rt, alloc, feed, &mut writer, port, 64, false).is_ok()
 }
 
-/// Tells of how many files a client was told, and in what time.
-fn tell(rt: &HostRuntime, what: &str, told: Option<Told>) -> Result<()> {
-    let Some(Told { paths, time }) = told else {
+/// Prints how many paths or files a client got, and in what time.
+fn print_measured(rt: &HostRuntime, what: &str, measured: Option<Measured>) -> Result<()> {
+    let Some(Measured { paths, time }) = measured else {
         println!(rt; "{what}: not answered")?;
         return Ok(());
     };
@@ -222,44 +222,44 @@ fn main(rt: HostRuntime) -> Result<()> {
     for changed in CHANGED {
         let (script, port) = (script(alloc, changed, 1)?, free_port(&rt)?);
         let ended = AtomicBool::new(false);
-        let (told, _) = thread::join(
+        let (measured, _) = thread::join(
             &rt,
             || {
-                let told = poll_alone(&rt, alloc, port, poll.as_slice());
+                let measured = poll_alone(&rt, alloc, port, poll.as_slice());
                 ended.store(true, Ordering::SeqCst);
-                told
+                measured
             },
             || stay_until(&rt, alloc, port, script.as_slice(), b"".as_slice(), &ended),
         );
         let what = format!(in alloc; "a poll, files told of {changed}")?;
-        tell(&rt, what.as_str(), told)?;
+        print_measured(&rt, what.as_str(), measured)?;
     }
     for connections in CONNECTIONS {
         let (script, port) = (script(alloc, 0, 1)?, free_port(&rt)?);
         let ended = AtomicBool::new(false);
-        let (told, _) = thread::join(
+        let (measured, _) = thread::join(
             &rt,
             || {
                 let poll = |polls| poll_often(&rt, alloc, port, poll.as_slice(), polls);
-                let told = poll_together(&rt, alloc, connections, &poll);
+                let measured = poll_together(&rt, alloc, connections, &poll);
                 ended.store(true, Ordering::SeqCst);
-                told
+                measured
             },
             || stay_until(&rt, alloc, port, script.as_slice(), LINES, &ended),
         );
         let what = format!(in alloc; "polls over {connections} connections at once")?;
-        tell(&rt, what.as_str(), told)?;
+        print_measured(&rt, what.as_str(), measured)?;
     }
     let (script, port) = (script(alloc, FILES, BYTES)?, free_port(&rt)?);
     let ended = AtomicBool::new(false);
-    let (told, _) = thread::join(
+    let (measured, _) = thread::join(
         &rt,
         || {
-            let told = take_basis(&rt, alloc, port);
+            let measured = take_basis(&rt, alloc, port);
             ended.store(true, Ordering::SeqCst);
-            told
+            measured
         },
         || stay_until(&rt, alloc, port, script.as_slice(), b"".as_slice(), &ended),
     );
-    tell(&rt, "a basis and its contents, files", told)
+    print_measured(&rt, "a basis and its contents, files", measured)
 }

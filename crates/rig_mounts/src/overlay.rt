@@ -4,6 +4,7 @@
 
 use crate::measuring::{ORDERS, now};
 use anyhow::Result;
+use bytes::Bytes;
 use eden_ids::{GitNaming, Id, Kind, Path};
 use eden_objects::Store;
 use eden_workcopy::WorkCopy;
@@ -36,7 +37,8 @@ impl Mounted {
                 .write_fault(&self.store, path, b"text".as_slice())
                 .is_none()
             {
-                self.work.put_file(path, Kind::Plain, b"text".as_slice())?;
+                self.work
+                    .put_file(path, Kind::Plain, &Bytes::from_static(b"text".as_slice()))?;
             }
         }
         Ok(())

@@ -11,7 +11,7 @@ use eden_follow::{Follower, VouchFault, vouch};
 use eden_globs::Filter;
 use eden_history::Change;
 use eden_ids::{GitNaming, NoMemory};
-use eden_logs::Answer;
+use eden_logs::CallAnswer;
 use eden_messages::{Outcome, Reply, Request};
 use eden_shared::{
     AuditFault, Audited, CallLog, Desk, OpenGate, Pass, Shared, audit, serve_shared,
@@ -23,14 +23,14 @@ use std::sync::Wait;
 use std::sync::ledger::{Blank, Ledger};
 
 /// A mount that stores its history, behind a lock.
-type Behind<L> = Shared<GitNaming, Audited<GitNaming>, L>;
+type AuditedMount<L> = Shared<GitNaming, Audited<GitNaming>, L>;
 
 /// A lock, a desk for a caller that writes and one for a service, and the follower that asks this one.
 #[derive(Drop)]
 struct Office<L: Ledger> {
     alloc: Global,
     refusals: Refusals,
-    shared: Behind<L>,
+    shared: AuditedMount<L>,
     writer: Desk<L>,
     service: Desk<L>,
     follower: Follower,
@@ -54,18 +54,22 @@ fn audited(
 }
 
 /// The lock of a mount of two files.
-fn behind<L: Ledger>(alloc: Global, refusals: &mut Refusals, blank: Blank) -> Result<Behind<L>>
+fn behind<L: Ledger>(
+    alloc: Global,
+    refusals: &mut Refusals,
+    blank: Blank,
+) -> Result<AuditedMount<L>>
     requires name { blank.name ≡ L.name }
     requires parts { blank.parts ≡ L.parts }
     requires whole { blank.parts ≡ 256 }
 {
     let mount = mounted(alloc, refusals)?;
     let audited = audited(alloc, refusals, mount)?;
-    Ok(Behind::<L>::new(audited, blank))
+    Ok(AuditedMount::<L>::new(audited, blank))
 }
 
 /// A desk for one more caller.
-fn desk<L: Ledger>(wait: &impl Wait, alloc: Global, shared: &Behind<L>) -> Result<Desk<L>> {
+fn desk<L: Ledger>(wait: &impl Wait, alloc: Global, shared: &AuditedMount<L>) -> Result<Desk<L>> {
     Ok(Desk::new(alloc, shared.pass(wait)?))
 }
 
@@ -73,7 +77,7 @@ fn desk<L: Ledger>(wait: &impl Wait, alloc: Global, shared: &Behind<L>) -> Resul
 fn two_desks<L: Ledger>(
     wait: &impl Wait,
     alloc: Global,
-    shared: &Behind<L>,
+    shared: &AuditedMount<L>,
 ) -> Result<(Desk<L>, Desk<L>)> {
     let writer = desk(wait, alloc, shared)?;
     Ok((writer, desk(wait, alloc, shared)?))
@@ -101,7 +105,7 @@ fn open<L: Ledger>(wait: &impl Wait, alloc: Global, blank: Blank) -> Result<Offi
 /// Makes a change. Where memory was refused, it may have been taken, and the log says then that it has no answer.
 fn change<L: Ledger>(
     wait: &impl Wait,
-    shared: &Behind<L>,
+    shared: &AuditedMount<L>,
     desk: &mut Desk<L>,
     change: &Change,
 ) -> Result<(), NoMemory> {
@@ -112,7 +116,7 @@ fn change<L: Ledger>(
 /// Asks. The same holds.
 fn ask<L: Ledger>(
     wait: &impl Wait,
-    shared: &Behind<L>,
+    shared: &AuditedMount<L>,
     desk: &mut Desk<L>,
     request: &Request,
 ) -> Result<(u64, Reply), NoMemory> {
@@ -123,7 +127,7 @@ fn ask<L: Ledger>(
 fn served<L: Ledger>(
     wait: &impl Wait,
     alloc: Global,
-    shared: &Behind<L>,
+    shared: &AuditedMount<L>,
     desk: &mut Desk<L>,
     frames: &[u8],
     room: Vec<u8>,
@@ -247,7 +251,7 @@ fn serve_all<L: Ledger>(rt: &HostRuntime, wait: &impl Wait, office: &mut Office<
 fn unanswered(log: &CallLog) -> usize {
     let entries = log.entries.as_slice().iter();
     entries
-        .filter(|entry| entry.answer == Answer::Unanswered)
+        .filter(|entry| entry.answer == CallAnswer::Unanswered)
         .count()
 }
 
@@ -341,9 +345,7 @@ struct Closed {
 }
 
 /// Hands all back, into a place with room for it.
-fn hand_back<L: Ledger>(office: Office<L>, given: Given<L>) -> Result<Closed>
-    requires { L.parts ≡ 256 }
-{
+fn hand_back<L: Ledger>(office: Office<L>, given: Given<L>) -> Result<Closed> {
     let Office {
         refusals,
         shared,
@@ -382,18 +384,14 @@ fn tell_closed(rt: &HostRuntime, closed: &mut Closed) -> Result<u64> {
 }
 
 /// Hands all back.
-fn close<L: Ledger>(office: Office<L>) -> Result<Closed>
-    requires { L.parts ≡ 256 }
-{
+fn close<L: Ledger>(office: Office<L>) -> Result<Closed> {
     let mut office = office;
     let given = room_for_two::<L>(office.alloc, &mut office.refusals)?;
     hand_back(office, given)
 }
 
 /// Hands all back, and tells what is said of that.
-fn close_and_tell<L: Ledger>(rt: &HostRuntime, office: Office<L>) -> Result<u64>
-    requires { L.parts ≡ 256 }
-{
+fn close_and_tell<L: Ledger>(rt: &HostRuntime, office: Office<L>) -> Result<u64> {
     tell_closed(rt, &mut close(office)?)
 }
 

@@ -5,6 +5,7 @@ use crate::refusals::{Refusals, again, keep};
 use crate::steps::{OneFile, Opening, Step};
 use crate::told::{tell_answer, tell_marked, tell_paths, tell_position, text_of};
 use anyhow::{Context, Result, anyhow, bail};
+use bytes::Bytes;
 use eden_accumulate::Mount;
 use eden_globs::Filter;
 use eden_history::{Answer, Change, ChangeFault, Marked, Position, SinceFault};
@@ -138,7 +139,7 @@ fn write(alloc: Global, at: &str, text: &str) -> Result<Change> {
     Ok(Change::Write {
         path: path(alloc, at)?,
         kind: Kind::Plain,
-        bytes: Sequence::from_vec(text.as_bytes().to_vec(alloc)?),
+        bytes: Bytes::copy_from_slice(alloc, text.as_bytes())?,
     })
 }
 
@@ -155,7 +156,7 @@ fn import(alloc: Global, made: &[Made]) -> Result<Change, AllocError> {
     let mut objects = Vec::new(alloc);
     for made in made {
         objects.push(Object {
-            word: made.word,
+            object_type: made.object_type,
             payload: Sequence::from_vec(made.payload.as_slice().to_vec(alloc)?),
         })?;
     }
@@ -177,7 +178,7 @@ fn put_commit(
         last = again!(
             refusals,
             PutFault::NoMemory,
-            put(store, object.word, object.payload.as_slice())
+            put(store, object.object_type, object.payload.as_slice())
         );
     }
     keep(refusals, commits, (file.0, last))

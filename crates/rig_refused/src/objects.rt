@@ -5,7 +5,7 @@ use crate::steps::OneFile;
 use crate::told::text_of;
 use anyhow::{Result, bail};
 use eden_ids::{GitNaming, Id, Naming, Path};
-use eden_objects::{CommitFault, Importer, PutFault, Store, Word};
+use eden_objects::{CommitFault, Importer, ObjectType, PutFault, Store};
 use eden_treediff::diff;
 use std::alloc::{AllocError, Global};
 use test_kit::{commit_of, tree_of};
@@ -13,40 +13,47 @@ use test_kit::{commit_of, tree_of};
 /// An object, and the id that it has.
 #[derive(Drop)]
 pub(crate) struct Made {
-    pub(crate) word: Word,
+    pub(crate) object_type: ObjectType,
     pub(crate) payload: Vec<u8>,
     pub(crate) id: Id,
 }
 
 /// The object of a payload.
-fn object_of(word: Word, payload: Vec<u8>) -> Made {
-    let id = GitNaming.id_of(word.text(), payload.as_slice());
-    Made { word, payload, id }
+fn object_of(object_type: ObjectType, payload: Vec<u8>) -> Made {
+    let id = GitNaming.id_of(object_type.text(), payload.as_slice());
+    Made {
+        object_type,
+        payload,
+        id,
+    }
 }
 
 impl Made {
     /// Whether a store has it.
     pub(crate) fn is_in(&self, store: &Store<GitNaming>) -> bool {
-        has(store, self.word, self.id, self.payload.as_slice())
+        has(store, self.object_type, self.id, self.payload.as_slice())
     }
 }
 
 /// A commit of one plain file: the file, the tree and the commit.
 pub(crate) fn objects_of(alloc: Global, file: OneFile) -> Result<Vec<Made>, AllocError> {
     let (_, path, text) = file;
-    let blob = object_of(Word::Blob, text.as_bytes().to_vec(alloc)?);
-    let tree = object_of(Word::Tree, tree_of(alloc, &[("100644", path, blob.id)])?);
-    let commit = object_of(Word::Commit, commit_of(alloc, tree.id, "")?);
+    let blob = object_of(ObjectType::Blob, text.as_bytes().to_vec(alloc)?);
+    let tree = object_of(
+        ObjectType::Tree,
+        tree_of(alloc, &[("100644", path, blob.id)])?,
+    );
+    let commit = object_of(ObjectType::Commit, commit_of(alloc, tree.id, "")?);
     Ok(vec![in alloc; blob, tree, commit]?)
 }
 
 /// Puts an object.
 pub(crate) fn put(
     store: &mut Store<GitNaming>,
-    word: Word,
+    object_type: ObjectType,
     payload: &[u8],
 ) -> Result<Id, PutFault> {
-    store.put_object(word, payload)
+    store.put_object(object_type, payload)
 }
 
 /// A store, and what was put into it so far.
@@ -59,11 +66,11 @@ struct Putting {
 }
 
 /// Whether a store has an object of a kind under an id.
-fn has(store: &Store<GitNaming>, word: Word, id: Id, payload: &[u8]) -> bool {
-    match word {
-        Word::Blob => store.blob(id) == Some(payload),
-        Word::Tree => store.tree(id) == Some(payload),
-        Word::Commit => store.has_commit(id),
+fn has(store: &Store<GitNaming>, object_type: ObjectType, id: Id, payload: &[u8]) -> bool {
+    match object_type {
+        ObjectType::Blob => store.blob(id) == Some(payload),
+        ObjectType::Tree => store.tree(id) == Some(payload),
+        ObjectType::Commit => store.has_commit(id),
     }
 }
 
@@ -78,21 +85,21 @@ impl Putting {
     }
 
     /// The store has what was put, and not what was refused.
-    fn is_as_before(&self, word: Word, payload: &[u8]) -> bool {
-        let id = GitNaming.id_of(word.text(), payload);
+    fn is_as_before(&self, object_type: ObjectType, payload: &[u8]) -> bool {
+        let id = GitNaming.id_of(object_type.text(), payload);
         let kept = self.known.iter().all(|known| known.is_in(&self.store));
-        kept && !has(&self.store, word, id, payload)
+        kept && !has(&self.store, object_type, id, payload)
     }
 
     /// Puts an object, and again where memory was refused.
-    fn put(&mut self, word: Word, payload: &[u8]) -> Result<Id> {
-        let id = match put(&mut self.store, word, payload) {
+    fn put(&mut self, object_type: ObjectType, payload: &[u8]) -> Result<Id> {
+        let id = match put(&mut self.store, object_type, payload) {
             Err(PutFault::NoMemory) => {
                 self.refusals.add();
-                if !self.is_as_before(word, payload) {
+                if !self.is_as_before(object_type, payload) {
                     bail!("a put that was refused memory changed the store");
                 }
-                put(&mut self.store, word, payload)?
+                put(&mut self.store, object_type, payload)?
             }
             answered => answered?,
         };
@@ -101,7 +108,11 @@ impl Putting {
         keep(
             &mut self.refusals,
             &mut self.known,
-            Made { word, payload, id },
+            Made {
+                object_type,
+                payload,
+                id,
+            },
         )?;
         Ok(id)
     }
@@ -118,14 +129,14 @@ pub(crate) fn tell_id(rt: &HostRuntime, name: &str, id: Id) -> Result<()> {
 fn put_tree(putting: &mut Putting, entries: &[(&str, &str, Id)]) -> Result<Id> {
     let alloc = putting.alloc;
     let payload = again!(putting.refusals, _, tree_of(alloc, entries));
-    putting.put(Word::Tree, payload.as_slice())
+    putting.put(ObjectType::Tree, payload.as_slice())
 }
 
 /// Puts a commit of a tree.
 fn put_commit(putting: &mut Putting, tree: Id) -> Result<Id> {
     let alloc = putting.alloc;
     let payload = again!(putting.refusals, _, commit_of(alloc, tree, ""));
-    putting.put(Word::Commit, payload.as_slice())
+    putting.put(ObjectType::Commit, payload.as_slice())
 }
 
 fn paths_between(
@@ -150,7 +161,7 @@ fn differing(putting: &mut Putting, first: Id, second: Id) -> Result<Vec<Path>> 
 /// Puts two commits, in the second of which a directory stands where the first has a file. Gives the ids of the blob, of the first tree and commit,
 /// of the directory, and of the second tree and commit.
 fn put_both(putting: &mut Putting) -> Result<[Id; 6]> {
-    let x = putting.put(Word::Blob, b"x".as_slice())?;
+    let x = putting.put(ObjectType::Blob, b"x".as_slice())?;
     let t = put_tree(putting, &[("100644", "a", x), ("100644", "a.b", x)])?;
     let c = put_commit(putting, t)?;
     let s = put_tree(putting, &[("100644", "b", x)])?;

@@ -5,10 +5,11 @@ use crate::mounted::{apply, empty_mount};
 use crate::refusals::{Refusals, again};
 use crate::told::{tell_marked, tell_paths, tell_position, text_of};
 use anyhow::{Result, bail};
+use bytes::Bytes;
 use eden_accumulate::Mount;
 use eden_globs::Filter;
 use eden_history::{Change, Position};
-use eden_ids::{GitNaming, Id, Kind, Path, Sequence};
+use eden_ids::{GitNaming, Id, Kind, Path};
 use eden_messages::{Query, Reply, Request};
 use eden_query::ServeFault;
 use std::alloc::Global;
@@ -34,7 +35,7 @@ pub(crate) fn write(alloc: Global, at: &[u8], text: &[u8]) -> Result<Change> {
     Ok(Change::Write {
         path: Path::parse(alloc, at)?,
         kind: Kind::Exec,
-        bytes: Sequence::from_vec(text.to_vec(alloc)?),
+        bytes: Bytes::copy_from_slice(alloc, text)?,
     })
 }
 

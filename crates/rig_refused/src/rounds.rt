@@ -4,10 +4,11 @@ use crate::mounted::{apply, empty_mount};
 use crate::refusals::{Refusals, again, keep};
 use crate::told::text_of;
 use anyhow::{Context, Result, bail};
+use bytes::Bytes;
 use eden_accumulate::Mount;
 use eden_globs::Filter;
 use eden_history::Change;
-use eden_ids::{GitNaming, Kind, NoMemory, Path, Sequence};
+use eden_ids::{GitNaming, Kind, NoMemory, Path};
 use eden_messages::{Outcome, Reply, Request};
 use eden_mirror::Mirror;
 use eden_query::reply_to;
@@ -109,7 +110,7 @@ fn change_of(alloc: Global, step: Step) -> Result<Option<Change>> {
         Step::Write(at, text) => Some(Change::Write {
             path: Path::parse(alloc, at.as_bytes())?,
             kind: Kind::Plain,
-            bytes: Sequence::from_vec(text.as_bytes().to_vec(alloc)?),
+            bytes: Bytes::copy_from_slice(alloc, text.as_bytes())?,
         }),
         Step::Remount(generation) => Some(Change::Remount { generation }),
         _ => None,

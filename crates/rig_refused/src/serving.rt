@@ -23,7 +23,7 @@ use std::sync::ledger::{Blank, Ledger};
 use std::time::Clock;
 
 /// A mount behind a lock of which nothing is logged.
-type Behind<L> = Unlogged<GitNaming, Mount<GitNaming>, L>;
+type UnloggedMount<L> = Unlogged<GitNaming, Mount<GitNaming>, L>;
 
 /// Serves the frames to one caller.
 fn served(alloc: Global, mount: &mut Mount<GitNaming>, frames: &[u8], room: Vec<u8>) -> Served {
@@ -66,7 +66,7 @@ pub(crate) fn serve_frames(rt: &HostRuntime) -> Result<u64> {
 fn served_behind<L: Origin, W: Wait + Clock>(
     wait: &W,
     alloc: Global,
-    unlogged: &Behind<L>,
+    unlogged: &UnloggedMount<L>,
     frames: &[u8],
     room: Vec<u8>,
 ) -> Served {
@@ -88,7 +88,7 @@ fn served_behind<L: Origin, W: Wait + Clock>(
 /// The reply to a request.
 fn ask<L: Origin>(
     wait: &impl Wait,
-    unlogged: &Behind<L>,
+    unlogged: &UnloggedMount<L>,
     request: &Request,
 ) -> Result<Reply, NoMemory> {
     unlogged.ask(wait, request)
@@ -97,7 +97,7 @@ fn ask<L: Origin>(
 /// Makes a change.
 fn change<L: Origin>(
     wait: &impl Wait,
-    unlogged: &Behind<L>,
+    unlogged: &UnloggedMount<L>,
     pass: &mut Pass<L>,
     change: &Change,
 ) -> Result<Answer, NoMemory> {
@@ -109,7 +109,7 @@ fn tell_asked<L: Origin>(
     rt: &HostRuntime,
     wait: &impl Wait,
     refusals: &mut Refusals,
-    unlogged: &Behind<L>,
+    unlogged: &UnloggedMount<L>,
     request: &Request,
 ) -> Result<()> {
     let reply = again!(refusals, _, ask(wait, unlogged, request));
@@ -120,7 +120,7 @@ fn tell_asked<L: Origin>(
 fn change_again<L: Origin>(
     wait: &impl Wait,
     refusals: &mut Refusals,
-    unlogged: &Behind<L>,
+    unlogged: &UnloggedMount<L>,
     pass: &mut Pass<L>,
     made: &Change,
     basis: &Request,
@@ -142,7 +142,7 @@ fn write_third<L: Origin>(
     wait: &impl Wait,
     alloc: Global,
     refusals: &mut Refusals,
-    unlogged: &Behind<L>,
+    unlogged: &UnloggedMount<L>,
     pass: &mut Pass<L>,
 ) -> Result<()> {
     let third = again!(refusals, _, write(alloc, b"f".as_slice(), b"x".as_slice()));
@@ -154,7 +154,7 @@ fn tell_third<L: Origin>(
     rt: &HostRuntime,
     wait: &impl Wait,
     refusals: &mut Refusals,
-    unlogged: &Behind<L>,
+    unlogged: &UnloggedMount<L>,
 ) -> Result<()> {
     let alloc = rt.alloc();
     tell_asked(rt, wait, refusals, unlogged, &basis(alloc))?;
@@ -167,7 +167,7 @@ fn serve_behind_twice<L: Origin, W: Wait + Clock>(
     rt: &HostRuntime,
     wait: &W,
     refusals: &mut Refusals,
-    unlogged: &Behind<L>,
+    unlogged: &UnloggedMount<L>,
     frames: &[u8],
 ) -> Result<()> {
     let alloc = rt.alloc();

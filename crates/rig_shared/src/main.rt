@@ -8,11 +8,12 @@
 ghost use Rattle.std.specs.Prelude.{◌≡◌};
 
 use anyhow::Result;
+use bytes::Bytes;
 use eden_accumulate::Mount;
 use eden_globs::Filter;
 use eden_history::{Change, Mode, Position};
-use eden_ids::{GitNaming, Id, Kind, Path, Sequence};
-use eden_logs::{Answer, Call};
+use eden_ids::{GitNaming, Id, Kind, Path};
+use eden_logs::{Call, CallAnswer};
 use eden_messages::{Query, Reply, Request};
 use eden_objects::Store;
 use eden_shared::{AuditFault, Audited, CallLog, Desk, OpenGate, Pass, Shared, audit};
@@ -37,7 +38,7 @@ const POLLS: u64 = 10;
 const PAUSE: u64 = 200;
 
 /// A mount that stores its history, behind a lock.
-type Behind<L> = Shared<GitNaming, Audited<GitNaming>, L>;
+type AuditedMount<L> = Shared<GitNaming, Audited<GitNaming>, L>;
 
 /// How the callers make their calls.
 #[derive(Clone, Copy)]
@@ -123,7 +124,7 @@ fn writes(alloc: Global, writer: u64) -> Result<Vec<Call>> {
         calls.push(Call::Change(Change::Write {
             path: Path::parse(alloc, path.as_bytes())?,
             kind: Kind::Plain,
-            bytes: Sequence::from_vec(text.into_bytes()),
+            bytes: Bytes::from_string(text)?,
         }))?;
     }
     Ok(calls)
@@ -151,7 +152,7 @@ fn polls(alloc: Global, poller: u64, since: Position) -> Result<Vec<Call>> {
 fn callers<L: Ledger>(
     rt: &impl Wait,
     alloc: Global,
-    shared: &Behind<L>,
+    shared: &AuditedMount<L>,
     since: Position,
     pause: Option<Duration>,
 ) -> Result<Vec<Caller<L>>> {
@@ -178,7 +179,7 @@ fn callers<L: Ledger>(
 /// Makes a call, and gives the time that it took.
 fn make<L: Ledger>(
     rt: &(impl Wait + Clock),
-    shared: &Behind<L>,
+    shared: &AuditedMount<L>,
     desk: &mut Desk<L>,
     call: &Call,
 ) -> Result<Duration> {
@@ -194,7 +195,7 @@ fn make<L: Ledger>(
 fn make_all<L: Ledger>(
     rt: &(impl Wait + Clock),
     alloc: Global,
-    shared: &Behind<L>,
+    shared: &AuditedMount<L>,
     caller: Caller<L>,
 ) -> Result<Done<L>> {
     let Caller {
@@ -219,7 +220,7 @@ fn make_all<L: Ledger>(
 fn make_in_turn<L: Ledger>(
     rt: &(impl Wait + Clock),
     alloc: Global,
-    shared: &Behind<L>,
+    shared: &AuditedMount<L>,
     callers: Vec<Caller<L>>,
 ) -> Result<Vec<Done<L>>> {
     let mut done = Vec::new(alloc);
@@ -233,7 +234,7 @@ fn make_in_turn<L: Ledger>(
 fn make_in_threads<L: Ledger + Send + Sync, R: Threads + Wait + Clock + Sync>(
     rt: &R,
     alloc: Global,
-    shared: &Behind<L>,
+    shared: &AuditedMount<L>,
     callers: Vec<Caller<L>>,
 ) -> Result<Vec<Done<L>>> {
     let ended = thread::map_vec(rt, callers, &|caller| make_all(rt, alloc, shared, caller))?;
@@ -248,7 +249,7 @@ fn make_in_threads<L: Ledger + Send + Sync, R: Threads + Wait + Clock + Sync>(
 fn listed(log: &CallLog) -> usize {
     let mut paths = 0_usize;
     for entry in log.entries.as_slice() {
-        if let Answer::Replied(Reply::ChangesAre { marked, .. }) = &entry.answer {
+        if let CallAnswer::Replied(Reply::ChangesAre { marked, .. }) = &entry.answer {
             paths = paths.saturating_add(marked.len());
         }
     }
@@ -258,12 +259,10 @@ fn listed(log: &CallLog) -> usize {
 /// Hands all passes back, and has the logs audited.
 fn finish<L: Ledger>(
     alloc: Global,
-    shared: Behind<L>,
+    shared: AuditedMount<L>,
     done: Vec<Done<L>>,
     whole: Duration,
-) -> Result<Measured>
-    requires { L.parts ≡ 256 }
-{
+) -> Result<Measured> {
     let (mut passes, mut logs, mut times) = (Vec::new(alloc), Vec::new(alloc), Vec::new(alloc));
     let mut paths = 0_usize;
     for caller in done {
@@ -295,7 +294,7 @@ fn measure<L: Ledger + Send + Sync, R: Threads + Wait + Clock + Sync>(
     requires parts { blank.parts ≡ L.parts }
     requires whole { blank.parts ≡ 256 }
 {
-    let shared = Behind::<L>::new(Audited::new(alloc, mount)?, blank);
+    let shared = AuditedMount::<L>::new(Audited::new(alloc, mount)?, blank);
     let callers = callers(rt, alloc, &shared, since, manner.pause())?;
     let start = Instant::now(rt)?;
     let done = match manner {
@@ -327,8 +326,8 @@ fn tell_times(rt: &HostRuntime, manner: &str, times: &Times) -> Result<()> {
     Ok(())
 }
 
-/// Tells what came of all calls.
-fn tell(rt: &HostRuntime, manner: &str, measured: &Measured) -> Result<()> {
+/// Prints what came of all calls.
+fn print_measured(rt: &HostRuntime, manner: &str, measured: &Measured) -> Result<()> {
     let (calls, listed) = (measured.calls, measured.listed);
     match &measured.audit {
         Ok(()) => println!(rt; "{manner}: {calls} calls, {listed} paths, audit ok")?,
@@ -353,7 +352,7 @@ fn main(rt: HostRuntime) -> Result<()> {
         let copy = mount.copy()?;
         let blank = Blank::new(256);
         let measured = measure::<Brand, HostRuntime>(&rt, alloc, copy, since, manner, blank)?;
-        tell(&rt, manner.name(), &measured)?;
+        print_measured(&rt, manner.name(), &measured)?;
     }
     Ok(())
 }

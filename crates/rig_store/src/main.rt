@@ -6,7 +6,7 @@
 use anyhow::Result;
 use eden_accumulate::Mount;
 use eden_ids::{GitNaming, Id, Naming, Path, Sequence};
-use eden_objects::{Object, Store, Word};
+use eden_objects::{Object, ObjectType, Store};
 use rig_kit::{each, scattered};
 use std::alloc::Global;
 use std::hint::black_box;
@@ -77,8 +77,11 @@ fn batch(alloc: Global, from: u64, size: u64) -> Result<Vec<Object>> {
     let mut objects = Vec::new(alloc);
     for number in from..from.saturating_add(size) {
         let payload = Sequence::from_vec(blob(alloc, number)?);
-        let word = Word::Blob;
-        objects.push(Object { word, payload })?;
+        let object_type = ObjectType::Blob;
+        objects.push(Object {
+            object_type,
+            payload,
+        })?;
     }
     Ok(objects)
 }

@@ -3,7 +3,7 @@
 use crate::clock::{now, since};
 use anyhow::Result;
 use eden_ids::{Id, NoMemory};
-use eden_segments::{Share, Shared, Table};
+use eden_segments::{Counted, Share, Table};
 use indexmap::IndexMap;
 use rig_kit::{each, scattered};
 use std::alloc::Global;
@@ -17,7 +17,7 @@ const TURNS: u64 = 1_000_000;
 #[derive(Drop)]
 struct Row {
     number: u64,
-    payload: Shared<Vec<u8>>,
+    payload: Counted<Vec<u8>>,
 }
 
 impl Share for Row {
@@ -35,7 +35,7 @@ fn new_row(alloc: Global, number: u64) -> Result<Row> {
     let payload = vec![in alloc; 0u8; 30]?;
     Ok(Row {
         number,
-        payload: Shared::new(alloc, payload)?,
+        payload: Counted::new(alloc, payload)?,
     })
 }
 
@@ -218,10 +218,10 @@ fn one_segment(alloc: Global, count: u64) -> Result<Table<Row>> {
 }
 
 /// Returns a table of pointers to so many rows.
-fn behind_pointers(alloc: Global, count: u64) -> Result<Table<Shared<Row>>> {
+fn behind_pointers(alloc: Global, count: u64) -> Result<Table<Counted<Row>>> {
     let mut table = Table::new(alloc);
     for number in 0..count {
-        let row = Shared::new(alloc, new_row(alloc, number)?)?;
+        let row = Counted::new(alloc, new_row(alloc, number)?)?;
         add(&mut table, number, row)?;
     }
     Ok(table)
@@ -282,7 +282,7 @@ impl Rows for Table<Row> {
     }
 }
 
-impl Rows for Table<Shared<Row>> {
+impl Rows for Table<Counted<Row>> {
     fn row(&self, id: Id) -> Option<&Row> {
         match self.get(id) {
             Some(row) => Some(&**row),

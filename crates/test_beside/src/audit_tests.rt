@@ -5,7 +5,7 @@ use eden_history::{Change, ChangeFault};
 use eden_ids::{GitNaming, Id, Sequence};
 use eden_messages::{Query, Request};
 use eden_query::Served;
-use eden_shared::{Answer, AuditFault, Audited, Call, CallLog, LogEntry, audit};
+use eden_shared::{AuditFault, Audited, Call, CallAnswer, CallLog, LogEntry, audit};
 use eden_world::World;
 use std::alloc::Global;
 use std::process::Abort;
@@ -36,7 +36,7 @@ impl Scribes {
         })
     }
 
-    fn note(&mut self, caller: u64, call: Call, answer: Answer) -> Result<(), Fail> {
+    fn note(&mut self, caller: u64, call: Call, answer: CallAnswer) -> Result<(), Fail> {
         let ticket = (self.notes.len() as u64).saturating_add(1);
         let entry = LogEntry {
             ticket,
@@ -60,7 +60,7 @@ impl Scribes {
         let _ = self.audited.apply(caller, &change)?;
         let told = self.world.apply(&change)?;
         outcomes.count(&change, &told, roots);
-        self.note(caller, Call::Change(change), Answer::from(told))
+        self.note(caller, Call::Change(change), CallAnswer::from(told))
     }
 
     /// Asks for a basis, a poll, a fetch and a list, as one of the callers.
@@ -81,7 +81,7 @@ impl Scribes {
     fn ask_one(&mut self, caller: u64, request: Request) -> Result<(), Fail> {
         let _ = self.audited.hold(caller, &request)?;
         let reply = self.world.reply(&request)?;
-        self.note(caller, Call::Ask(request), Answer::Replied(reply))
+        self.note(caller, Call::Ask(request), CallAnswer::Replied(reply))
     }
 
     /// Returns the log of a caller, with this entry in place of its ticket's.
@@ -125,7 +125,7 @@ impl Scribes {
 /// Returns the entry with another answer.
 fn otherwise_answered(entry: &LogEntry) -> Result<LogEntry, Fail> {
     let mut other = copy_of(entry)?;
-    other.answer = Answer::Refused(ChangeFault::TooLarge);
+    other.answer = CallAnswer::Refused(ChangeFault::TooLarge);
     Ok(other)
 }
 

@@ -2,9 +2,10 @@
 
 use crate::comparing::{Pair, Step};
 use crate::stores::{sharing, two_commits};
+use bytes::Bytes;
 use eden_accumulate::Mount;
 use eden_history::{Change, Mode};
-use eden_ids::{GitNaming, Id, Kind, Sequence};
+use eden_ids::{GitNaming, Id, Kind};
 use std::alloc::Global;
 use std::process::Abort;
 use std::test::Fail;
@@ -30,7 +31,7 @@ fn change_of(alloc: Global, at: &str, act: Act) -> Result<Change, Fail> {
         Act::Write(text) => Change::Write {
             path: old,
             kind: Kind::Plain,
-            bytes: Sequence::from_vec(text.as_bytes().to_vec(alloc)?),
+            bytes: Bytes::copy_from_slice(alloc, text.as_bytes())?,
         },
         Act::Rename(new) => Change::Rename {
             old,

@@ -3,7 +3,7 @@
 use eden_accumulate::Mount;
 use eden_history::{Answer, Change, ChangeFault, Position};
 use eden_ids::{Id, Sequence};
-use eden_objects::{Object, PutFault, Store, Word};
+use eden_objects::{Object, ObjectType, PutFault, Store};
 use eden_world::World;
 use std::alloc::Global;
 use std::process::Abort;
@@ -16,7 +16,7 @@ fn files(alloc: Global, texts: &[&str]) -> Result<Sequence<Object>, Fail> {
     for text in texts {
         let payload = Sequence::from_vec(text.as_bytes().to_vec(alloc)?);
         objects.push(Object {
-            word: Word::Blob,
+            object_type: ObjectType::Blob,
             payload,
         })?;
     }

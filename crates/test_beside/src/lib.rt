@@ -1,7 +1,7 @@
 //! A mount beside the plain, slow program that keeps whole histories: tests make the same changes on both, and compare what they say.
 //! And filters beside a plain matcher.
 //!
-//! A crate of its own, so that no crate that ships stands on the plain program.
+//! A crate of its own, so that no crate that ships depends on the plain program.
 #![tactic(auto)]
 
 #[cfg(test)]

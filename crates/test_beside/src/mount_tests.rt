@@ -2,11 +2,12 @@
 
 use crate::comparing::{listed, mounted};
 use crate::stores::{sharing, two_commits};
+use bytes::Bytes;
 use eden_accumulate::{ChangeFault, Mode, Mount, Range, expand};
 use eden_history::{Answer, Change, Mark, Marked, Position, SinceFault};
 use eden_ids::{GitNaming, Id, Kind, Path, Sequence};
 use eden_journal::Journal;
-use eden_objects::{Object, Store, Word};
+use eden_objects::{Object, ObjectType, Store};
 use eden_workcopy::WorkCopy;
 use std::alloc::Global;
 use std::process::Abort;
@@ -25,8 +26,11 @@ fn last(alloc: Global, store: &mut Store<GitNaming>, root: Id) -> Result<Mount<G
 fn file(alloc: Global) -> Result<Vec<Object>, Fail> {
     let mut objects = Vec::new(alloc);
     let payload = Sequence::from_vec(b"z".as_slice().to_vec(alloc)?);
-    let word = Word::Blob;
-    objects.push(Object { word, payload })?;
+    let object_type = ObjectType::Blob;
+    objects.push(Object {
+        object_type,
+        payload,
+    })?;
     Ok(objects)
 }
 
@@ -231,9 +235,10 @@ fn holds(
     Ok(mount.read(&path(alloc, at)?)? == file)
 }
 
-/// Writes a file, and imports another one.
+/// Writes a file whose bytes are shared, and imports another one.
 fn write_and_import(alloc: Global, mount: &mut Mount<GitNaming>) -> Result<(), Fail> {
-    mount.write(&path(alloc, "a")?, Kind::Exec, b"1".as_slice())?;
+    let bytes = Bytes::from_static(b"1".as_slice());
+    mount.write_shared(&path(alloc, "a")?, Kind::Exec, &bytes)?;
     mount.import(file(alloc)?.as_slice())?;
     Ok(())
 }

@@ -5,7 +5,7 @@ use eden_follow::{Follower, VouchFault};
 use eden_globs::Filter;
 use eden_history::Change;
 use eden_ids::{GitNaming, Id, Sequence};
-use eden_logs::{Answer, AuditFault, Call, CallLog, LogEntry};
+use eden_logs::{AuditFault, Call, CallAnswer, CallLog, LogEntry};
 use eden_messages::Request;
 use eden_objects::Store;
 use eden_query::{Served, reply_to};
@@ -33,7 +33,7 @@ fn change(
     audited: &mut Audited<GitNaming>,
     change: Change,
 ) -> Result<CallLog, Fail> {
-    let answer = Answer::from(audited.apply(WRITER, &change)?);
+    let answer = CallAnswer::from(audited.apply(WRITER, &change)?);
     let entry = LogEntry {
         ticket: audited.entries().len() as u64,
         call: Call::Change(change),
@@ -57,7 +57,7 @@ fn ask(
     Ok(LogEntry {
         ticket,
         call: Call::Ask(request),
-        answer: Answer::Replied(reply),
+        answer: CallAnswer::Replied(reply),
     })
 }
 

@@ -4,7 +4,7 @@ use eden_follow::{Follower, VouchFault, vouch};
 use eden_globs::Filter;
 use eden_history::{Mark, Marked, Position};
 use eden_ids::{Id, Path, Sequence};
-use eden_logs::{Answer, Call, CallLog, LogEntry};
+use eden_logs::{Call, CallAnswer, CallLog, LogEntry};
 use eden_messages::{Outcome, Query, Reply, Request};
 use std::alloc::Global;
 use std::process::Abort;
@@ -56,7 +56,7 @@ fn changed(alloc: Global) -> Result<Reply, Fail> {
 }
 
 /// A call under a ticket, and what was told.
-fn entry(ticket: u64, request: Request, answer: Answer) -> LogEntry {
+fn entry(ticket: u64, request: Request, answer: CallAnswer) -> LogEntry {
     LogEntry {
         ticket,
         call: Call::Ask(request),
@@ -70,7 +70,7 @@ fn basis_entry(alloc: Global) -> LogEntry {
         query: query(1, 1),
         filter: Filter::all(alloc),
     };
-    entry(1, basis, Answer::Replied(listed(alloc)))
+    entry(1, basis, CallAnswer::Replied(listed(alloc)))
 }
 
 /// The question for what changed, under ticket 5, and the reply.
@@ -80,7 +80,7 @@ fn poll_entry(alloc: Global) -> Result<LogEntry, Fail> {
         since: position(1),
         filter: Filter::all(alloc),
     };
-    Ok(entry(5, poll, Answer::Replied(changed(alloc)?)))
+    Ok(entry(5, poll, CallAnswer::Replied(changed(alloc)?)))
 }
 
 /// The log of a service that the follower asked under tickets 1 and 5.
@@ -95,7 +95,7 @@ fn asked_log(alloc: Global) -> Result<CallLog, Fail> {
 /// The log of another service, which was asked once, and whose reply never came.
 fn other_log(alloc: Global, ticket: u64, request: Request) -> Result<CallLog, Fail> {
     let mut entries = Vec::new(alloc);
-    entries.push(entry(ticket, request, Answer::Unanswered))?;
+    entries.push(entry(ticket, request, CallAnswer::Unanswered))?;
     let entries = Sequence::from_vec(entries);
     Ok(CallLog { caller: 2, entries })
 }
@@ -188,7 +188,7 @@ fn judged(
 }
 
 /// The logs of both services vouch where they should.
-fn judge(rt: &impl Abort, alloc: Global, follower: &Follower) -> Result<(), Fail> {
+fn check_vouching(rt: &impl Abort, alloc: Global, follower: &Follower) -> Result<(), Fail> {
     for (ticket, life, number, said) in TAKEN {
         let told = judged(alloc, follower, (*ticket, *life, *number))?;
         assert_eq!(rt; told, *said, "{ticket}, {life}, {number}");
@@ -196,14 +196,14 @@ fn judge(rt: &impl Abort, alloc: Global, follower: &Follower) -> Result<(), Fail
     Ok(())
 }
 
-fn follow_and_judge(rt: &impl Abort, alloc: Global, follower: &mut Follower) -> Result<(), Fail> {
+fn follow_and_check(rt: &impl Abort, alloc: Global, follower: &mut Follower) -> Result<(), Fail> {
     take_two_rounds(rt, alloc, follower)?;
-    judge(rt, alloc, follower)
+    check_vouching(rt, alloc, follower)
 }
 
 #[test]
 fn vouch_faults(rt: HostRuntime) -> Result<(), Fail> {
     let alloc = rt.alloc();
     let mut follower = Follower::new(alloc, 3, 1, Filter::all(alloc));
-    follow_and_judge(&rt, alloc, &mut follower)
+    follow_and_check(&rt, alloc, &mut follower)
 }

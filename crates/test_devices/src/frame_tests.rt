@@ -2,6 +2,7 @@
 ghost use Rattle.eden_stream.specs.FrameAnswers.{AnswersBody, answers_story};
 ghost use Rattle.test_devices.specs.Echoes.{echoed};
 
+use super::pieces::{Case, is_so_in_pieces};
 use super::{Endless, Sink, Source};
 use eden_stream::{Counted, Faults, FrameFault, Frames, ServeFault, Step, Teller, tell_frames};
 use std::alloc::Global;
@@ -29,10 +30,10 @@ fn echo_body(body: &[u8], text: &mut Vec<u8>) -> Step<FrameFault>
 }
 
 impl Teller<Frames, (), FrameFault> for Echo {
-    ghost story = { λ _ _ _. answers_story echoed };
+    ghost story = { λ _ _ _. answers_story (λ _. echoed) };
 
     #[tactic(auto, using(eden_stream::proofs::Replying::answers_tell))]
-    fn tell(&self, _server: &mut (), body: &[u8], text: &mut Vec<u8>) -> Step<FrameFault> {
+    fn answer(&self, _server: &mut (), body: &[u8], text: &mut Vec<u8>) -> Step<FrameFault> {
         echo_body(body, text)
     }
 
@@ -52,10 +53,8 @@ fn told<R: Read + Drop>(alloc: Global, source: R, sink: Sink) -> (End, Vec<u8>) 
     (told, sink.bytes)
 }
 
-// A stream, the replies to its frames, and how its serving ends.
-type Case = (&'static [u8], &'static [u8], Result<u64, ServeFault>);
-
-const CASES: &[Case] = &[
+/// A stream, the replies to its frames, and how it ends.
+const CASES: &[Case<ServeFault>] = &[
     (b"", b"", Ok(0)),
     (b"\0\0\0\x01a\0\0\0\x02bc", b"a\nbc\n", Ok(2)),
     (b"\0\0\0\0\0\0\0\0\0\0\0\x01a", b"\n\na\n", Ok(3)),
@@ -125,28 +124,18 @@ const CASES: &[Case] = &[
     ),
 ];
 
-// Whether frames end and are answered so in pieces of at most so many bytes, cut anywhere, with interrupts and without.
-fn is_told_in_pieces(alloc: Global, case: &Case, most: usize, interrupts: bool) -> bool {
-    let (stream, wanted, ends) = case;
-    for cut in 0..=stream.len() {
-        let source = Source::in_pieces(stream, most, cut, interrupts);
-        let sink = Sink::interrupting(alloc, interrupts);
-        let (end, text) = told(alloc, source, sink);
-        if end.0 != *ends || text.as_slice() != *wanted {
-            return false;
-        }
-    }
-    true
-}
-
 #[test]
 fn pieces_of_frames_do_not_matter(rt: HostRuntime) {
     for case in CASES {
-        for most in [usize::MAX, 1, 2] {
-            for interrupts in [false, true] {
-                assert!(rt; is_told_in_pieces(rt.alloc(), case, most, interrupts));
-            }
-        }
+        let is_so = is_so_in_pieces(
+            rt.alloc(),
+            case,
+            &|source, sink| {
+                let (end, text) = told(rt.alloc(), source, sink);
+                (end.0, text)
+            },
+        );
+        assert!(rt; is_so);
     }
 }
 

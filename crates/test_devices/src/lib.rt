@@ -23,6 +23,8 @@ mod exchange;
 mod frame_tests;
 #[cfg(test)]
 mod line_tests;
+#[cfg(test)]
+mod pieces;
 mod sink;
 mod source;
 #[cfg(test)]

@@ -3,6 +3,7 @@ ghost use Rattle.std.specs.Prelude.{◌≡◌, ◌≢◌, ℕ, List, [], ◌∷�
 ghost use Rattle.eden_stream.specs.Lines.{IsSpoken};
 ghost use Rattle.eden_stream.specs.Scripts.{IsScript, in_front};
 
+use super::pieces::{Case, is_so_in_pieces};
 use super::{Endless, Sink, Source};
 use eden_stream::{Answered, Counted, Faults, LineMachine, RunFault, run_lines};
 use std::alloc::Global;
@@ -50,10 +51,8 @@ fn told<R: Read + Drop>(alloc: Global, source: R, sink: Sink) -> (End, Vec<u8>) 
     (told, sink.bytes)
 }
 
-// A script, what its lines print, and how its run ends.
-type Case = (&'static [u8], &'static [u8], Result<u64, RunFault>);
-
-const CASES: &[Case] = &[
+/// A script, what its lines print, and how it ends.
+const CASES: &[Case<RunFault>] = &[
     (b"", b"", Ok(0)),
     (b"a\nbc\n", b"a\nbc\n", Ok(2)),
     (b"a\r\nbc", b"a\nbc\n", Ok(2)),
@@ -68,28 +67,18 @@ const CASES: &[Case] = &[
     (b" #\n!", b" #\n", Err(RunFault::BadLine(2))),
 ];
 
-// Whether a script ends and prints so in pieces of at most so many bytes, cut anywhere, with interrupts and without.
-fn is_told_in_pieces(alloc: Global, case: &Case, most: usize, interrupts: bool) -> bool {
-    let (script, wanted, ends) = case;
-    for cut in 0..=script.len() {
-        let source = Source::in_pieces(script, most, cut, interrupts);
-        let sink = Sink::interrupting(alloc, interrupts);
-        let (end, text) = told(alloc, source, sink);
-        if end.0 != *ends || text.as_slice() != *wanted {
-            return false;
-        }
-    }
-    true
-}
-
 #[test]
 fn pieces_do_not_matter(rt: HostRuntime) {
     for case in CASES {
-        for most in [usize::MAX, 1, 2] {
-            for interrupts in [false, true] {
-                assert!(rt; is_told_in_pieces(rt.alloc(), case, most, interrupts));
-            }
-        }
+        let is_so = is_so_in_pieces(
+            rt.alloc(),
+            case,
+            &|source, sink| {
+                let (end, text) = told(rt.alloc(), source, sink);
+                (end.0, text)
+            },
+        );
+        assert!(rt; is_so);
     }
 }
 

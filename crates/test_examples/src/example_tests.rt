@@ -10,13 +10,13 @@ ghost use Rattle.eden_history.specs.Worlds.{WorldState};
 use crate::following::following;
 use crate::locks::{eden_shared_head, eden_shared_logged, eden_shared_unlogged};
 use crate::mounts::{
-    eden_accumulate_example, eden_checkout_example, eden_moves_example, eden_ranges_example,
+    eden_accumulate_example, eden_checkout_example, eden_ranges_example, eden_renames_example,
     eden_workcopy_example,
 };
 use eden_follow::Follower;
 use eden_ids::GitNaming;
 use eden_objects::Store;
-use eden_segments::{Shared, Table};
+use eden_segments::{Counted, Table};
 use eden_shared::Origin;
 use std::alloc::Global;
 use std::fs::{File, Files};
@@ -52,7 +52,7 @@ fn examples(rt: HostRuntime) -> Result<(), Fail> {
     eden_logs_example(&rt, alloc)?;
     eden_headline_example(&rt, alloc)?;
     eden_follow_example(&rt, alloc)?;
-    eden_moves_example(&rt, alloc)?;
+    eden_renames_example(&rt, alloc)?;
     eden_workcopy_example(&rt, alloc)?;
     eden_checkout_example(&rt, alloc)?;
     eden_ranges_example(&rt, alloc)?;
@@ -74,7 +74,8 @@ fn examples(rt: HostRuntime) -> Result<(), Fail> {
 }
 
 fn eden_ids_example(rt: &impl Abort, alloc: Global) -> Result<(), Fail> {
-    use eden_ids::{Content, Files, GitNaming, Kind, Naming, Path, Sequence};
+    use bytes::Bytes;
+    use eden_ids::{Content, Files, GitNaming, Kind, Naming, Path};
 
     let file = Path::parse(alloc, b"src/lib.rs".as_slice())?;
     let directory = Path::parse(alloc, b"src".as_slice())?;
@@ -88,7 +89,7 @@ fn eden_ids_example(rt: &impl Abort, alloc: Global) -> Result<(), Fail> {
     let mut files = Files::new(alloc);
     let content = Content {
         kind: Kind::Plain,
-        bytes: Sequence::new(alloc),
+        bytes: Bytes::new(),
     };
     files.insert(file.copy()?, content)?;
     assert!(rt; files.get(&file).is_some());
@@ -145,25 +146,25 @@ fn eden_lanes_example(rt: &impl Abort, alloc: Global) -> Result<(), Fail> {
 
 fn eden_segments_example(rt: &impl Abort, alloc: Global) -> Result<(), Fail> {
     use eden_ids::Id;
-    use eden_segments::{Shared, Table};
+    use eden_segments::{Counted, Table};
 
     let mut table = Table::new(alloc);
-    table.add(Id([1; 20]), Shared::new(alloc, 1)?)?;
+    table.add(Id([1; 20]), Counted::new(alloc, 1)?)?;
     eden_segments_copied(rt, alloc, &mut table)
 }
 
 fn eden_segments_copied(
     rt: &impl Abort,
     alloc: Global,
-    table: &mut Table<Shared<i32>>,
+    table: &mut Table<Counted<i32>>,
 ) -> Result<(), Fail> {
     use eden_ids::Id;
-    use eden_segments::Shared;
+    use eden_segments::Counted;
 
     // A copy keeps its rows, and each of the two tables grows by itself.
     let copy = table.share()?;
     if table.get(Id([2; 20])).is_none() {
-        table.add(Id([2; 20]), Shared::new(alloc, 2)?)?;
+        table.add(Id([2; 20]), Counted::new(alloc, 2)?)?;
     }
     assert!(rt; copy.get(Id([1; 20])).is_some_and(|value| **value == 1));
     assert!(rt; table.get(Id([2; 20])).is_some() && copy.get(Id([2; 20])).is_none());
@@ -191,13 +192,14 @@ fn eden_sockets_example<
 }
 
 fn eden_overlay_example(rt: &impl Abort, alloc: Global) -> Result<(), Fail> {
-    use eden_ids::{Content, Kind, Path, Sequence};
+    use bytes::Bytes;
+    use eden_ids::{Content, Kind, Path};
     use eden_overlay::Overlay;
 
     let notes = Path::parse(alloc, b"notes".as_slice())?;
     let empty = Content {
         kind: Kind::Plain,
-        bytes: Sequence::new(alloc),
+        bytes: Bytes::new(),
     };
     let mut overlay = Overlay::new(alloc);
     overlay.set(notes.copy()?, Some(empty))?;
@@ -270,13 +272,13 @@ fn eden_objects_imported(
     copy: &Store<GitNaming>,
 ) -> Result<(), Fail> {
     use eden_ids::{GitNaming, Naming, Sequence};
-    use eden_objects::{Object, Word};
+    use eden_objects::{Object, ObjectType};
 
     let mut objects = Vec::new(alloc);
     for bytes in [b"more\n".as_slice(), b"and more\n".as_slice()] {
         let payload = Sequence::from_vec(bytes.to_vec(alloc)?);
         objects.push(Object {
-            word: Word::Blob,
+            object_type: ObjectType::Blob,
             payload,
         })?;
     }
@@ -389,13 +391,13 @@ fn eden_mirror_example(rt: &impl Abort, alloc: Global) -> Result<(), Fail> {
 fn eden_logs_example(rt: &impl Abort, alloc: Global) -> Result<(), Fail> {
     use eden_history::Change;
     use eden_ids::Sequence;
-    use eden_logs::{Answer, Call, CallLog, LogEntry};
+    use eden_logs::{CallAnswer, Call, CallLog, LogEntry};
 
     // A caller that asked for a flush, and was told nothing.
     let entry = LogEntry {
         ticket: 1,
         call: Call::Change(Change::Flush),
-        answer: Answer::Unanswered,
+        answer: CallAnswer::Unanswered,
     };
     let entries = Sequence::from_vec(vec![in alloc; entry]?);
     let log = CallLog { caller: 1, entries };

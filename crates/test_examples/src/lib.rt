@@ -1,7 +1,7 @@
 //! The examples that stand at the heads of the libraries, as functions that a test calls; and a longer one, of a mount and a mirror that
 //! follows it by frames (`src/following.rt`).
 //!
-//! A crate of its own, since no one else stands on all of them.
+//! A crate of its own, since no other depends on all of them.
 #![tactic(auto)]
 
 #[cfg(test)]

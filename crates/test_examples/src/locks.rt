@@ -43,9 +43,7 @@ fn eden_shared_flushed<R: Abort + Wait, L: Ledger>(
     rt: &R,
     alloc: Global,
     shared: Logged<L>,
-) -> Result<(), Fail>
-    requires { L.parts ≡ 256 }
-{
+) -> Result<(), Fail> {
     use eden_history::Change;
     use eden_shared::Desk;
 
@@ -62,9 +60,7 @@ fn eden_shared_audited<R: Abort, L: Ledger>(
     shared: Logged<L>,
     pass: Pass<L>,
     log: CallLog,
-) -> Result<(), Fail>
-    requires { L.parts ≡ 256 }
-{
+) -> Result<(), Fail> {
     use eden_shared::audit;
 
     let mut audited = shared.finish(vec![in alloc; pass]?)?;

@@ -5,47 +5,47 @@ ghost use Rattle.eden_workcopy.specs.Meanings.{FitsIn};
 use eden_accumulate::Mount;
 use eden_ids::GitNaming;
 use eden_journal::Journal;
-use eden_moves::Moves;
 use eden_objects::Store;
+use eden_renames::Renames;
 use eden_workcopy::WorkCopy;
 use std::alloc::Global;
 use std::process::Abort;
 use std::test::Fail;
 
-pub(crate) fn eden_moves_example(rt: &impl Abort, alloc: Global) -> Result<(), Fail> {
+pub(crate) fn eden_renames_example(rt: &impl Abort, alloc: Global) -> Result<(), Fail> {
     use eden_ids::GitNaming;
-    use eden_moves::Moves;
+    use eden_renames::Renames;
     use eden_objects::Store;
 
     let store = Store::new(alloc, GitNaming);
-    let mut moves = Moves::new(alloc);
-    eden_moves_renamed(rt, alloc, &mut moves)?;
-    eden_moves_seen(rt, alloc, &store, &moves)
+    let mut renames = Renames::new(alloc);
+    eden_renames_renamed(rt, alloc, &mut renames)?;
+    eden_renames_seen(rt, alloc, &store, &renames)
 }
 
-fn eden_moves_renamed(rt: &impl Abort, alloc: Global, moves: &mut Moves) -> Result<(), Fail> {
+fn eden_renames_renamed(rt: &impl Abort, alloc: Global, renames: &mut Renames) -> Result<(), Fail> {
     use eden_ids::Path;
 
     let old = Path::parse(alloc, b"src".as_slice())?;
     let new = Path::parse(alloc, b"lib".as_slice())?;
-    moves.rename(&old, &new)?;
-    assert_eq!(rt; moves.entries().len(), 2);
+    renames.rename(&old, &new)?;
+    assert_eq!(rt; renames.entries().len(), 2);
     Ok(())
 }
 
-fn eden_moves_seen(
+fn eden_renames_seen(
     rt: &impl Abort,
     alloc: Global,
     store: &Store<GitNaming>,
-    moves: &Moves,
+    renames: &Renames,
 ) -> Result<(), Fail> {
     use eden_globs::Filter;
     use eden_ids::Id;
-    use eden_moves::Moved;
+    use eden_renames::Renamed;
 
-    let moved = Moved::of(store.commit_files(Id::ZERO), &moves);
-    assert!(rt; moved.file(b"lib/main".as_slice()).is_none());
-    assert!(rt; moved.list(alloc, &Filter::all(alloc))?.is_empty());
+    let renamed = Renamed::of(store.commit_files(Id::ZERO), &renames);
+    assert!(rt; renamed.file(b"lib/main".as_slice()).is_none());
+    assert!(rt; renamed.list(alloc, &Filter::all(alloc))?.is_empty());
     Ok(())
 }
 

@@ -1,8 +1,8 @@
 //! Git's format: entries of trees one by one and by rows, and what a commit names.
 
 use eden_git::{
-    Columns, EntryFault, RawEntry, Rows, Word, cut, key_order, next_entry, read_entry, same_word,
-    tree_named,
+    Columns, EntryFault, ObjectType, RawEntry, Rows, cut, key_order, next_entry, read_entry,
+    same_type, tree_named,
 };
 use eden_ids::{Id, Kind};
 use std::alloc::Global;
@@ -186,18 +186,21 @@ fn what_a_commit_names(rt: HostRuntime) -> Result<(), Fail> {
 }
 
 /// The words, and their texts.
-const WORDS: &[(Word, &str)] = &[
-    (Word::Blob, "blob"),
-    (Word::Tree, "tree"),
-    (Word::Commit, "commit"),
+const OBJECT_TYPES: &[(ObjectType, &str)] = &[
+    (ObjectType::Blob, "blob"),
+    (ObjectType::Tree, "tree"),
+    (ObjectType::Commit, "commit"),
 ];
 
 #[test]
 fn words_and_cuts(rt: HostRuntime) {
-    for (word, text) in WORDS {
-        assert!(rt; word.text() == text.as_bytes(), "{text}");
-        for (other, _) in WORDS {
-            assert!(rt; same_word(*word, *other) == (word == other), "{text}");
+    for (object_type, text) in OBJECT_TYPES {
+        assert!(rt; object_type.text() == text.as_bytes(), "{text}");
+        for (other, _) in OBJECT_TYPES {
+            assert!(rt;
+                same_type(*object_type, *other) == (object_type == other),
+                "{text}"
+            );
         }
     }
     let parts = cut(b"d/e/f".as_slice(), b'/');

@@ -3,11 +3,11 @@
 use eden_globs::FilterFault;
 use eden_history::{ChangeFault, SinceFault};
 use eden_ids::PathFault;
-use eden_objects::PutFault;
 use eden_script::{Refusal, push_refusal};
 use std::alloc::Global;
 use std::fmt::Display;
 use std::test::Fail;
+use test_kit::PUT_FAULTS;
 
 /// Whether a refusal's line shows what a fault displays.
 fn is_displayed<F: Display>(alloc: Global, fault: &F, cause: Refusal) -> Result<bool, Fail> {
@@ -38,23 +38,6 @@ const OF_PATHS: &[PathFault] = &[
     PathFault::NoMemory,
 ];
 
-const OF_PUTS: &[PutFault] = &[
-    PutFault::TooLarge,
-    PutFault::IdTaken,
-    PutFault::ZeroId,
-    PutFault::BadMode,
-    PutFault::BadName,
-    PutFault::OutOfOrder,
-    PutFault::Duplicate,
-    PutFault::MissingChild,
-    PutFault::WrongChildKind,
-    PutFault::TooDeep,
-    PutFault::PathTooLong,
-    PutFault::CutShort,
-    PutFault::BadCommit,
-    PutFault::NoMemory,
-];
-
 #[test]
 fn changes_paths_and_puts_are_refused_by_what_their_faults_display(
     rt: HostRuntime,
@@ -72,7 +55,7 @@ fn changes_paths_and_puts_are_refused_by_what_their_faults_display(
             "{fault}"
         );
     }
-    for fault in OF_PUTS {
+    for fault in PUT_FAULTS {
         assert!(rt;
             is_displayed(alloc, fault, Refusal::Put(*fault))?,
             "{fault}"

@@ -1,6 +1,7 @@
 //! Paths and what is refused as one, files' contents, and tables of paths.
 
 use crate::filter_tests::repeated;
+use bytes::Bytes;
 use eden_ids::{Content, Id, Kind, Path, PathFault, PathTable, Sequence, push_where};
 use std::alloc::Global;
 use std::test::Fail;
@@ -105,19 +106,19 @@ fn contents_are_copied_whole(rt: HostRuntime) -> Result<(), Fail> {
     let copy = copy.ok_or("no copy")?;
     assert!(rt; Some(copy.copy()?) == held);
     assert!(rt; copy.bytes.len() == 5 && !copy.bytes.is_empty());
-    assert!(rt; copy.bytes.into_vec().as_slice() == b"hello".as_slice());
+    assert!(rt; copy.bytes.as_slice() == b"hello".as_slice());
     Ok(())
 }
 
 #[test]
 fn contents_that_are_lent_or_that_are_none(rt: HostRuntime) -> Result<(), Fail> {
-    let lent = Some((Kind::Exec, b"hello".as_slice()));
-    let content = Content::of_lent(rt.alloc(), lent)?;
+    let bytes = Bytes::from_static(b"hello".as_slice());
+    let content = Content::of_lent(Some((Kind::Exec, &bytes)))?;
     assert!(rt;
         content.is_some_and(|own| own.kind == Kind::Exec
             && own.bytes.as_slice() == b"hello".as_slice())
     );
-    assert!(rt; Content::of_lent(rt.alloc(), None)?.is_none());
+    assert!(rt; Content::of_lent(None)?.is_none());
     assert!(rt; Content::copy_of(&None)?.is_none());
     assert!(rt; Sequence::<u8>::new(rt.alloc()).is_empty());
     assert!(rt; Id::ZERO == Id([0; 20]));

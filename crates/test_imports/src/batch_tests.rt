@@ -41,7 +41,10 @@ fn what_git_printed(rt: HostRuntime) -> Result<(), Fail> {
         assert!(rt; ids.as_slice() == wanted.as_slice(), "{most} bytes a read");
         let commit = ids.as_slice().last().copied().unwrap_or(Id::ZERO);
         let readme = store.file(commit, b"README".as_slice());
-        assert!(rt; readme == Some((Kind::Plain, b"hello\n".as_slice())));
+        assert!(rt;
+            readme.is_some_and(|(kind, bytes)| kind == Kind::Plain
+                && bytes.as_slice() == b"hello\n".as_slice())
+        );
     }
     Ok(())
 }

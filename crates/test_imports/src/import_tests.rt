@@ -1,22 +1,22 @@
 //! Imports of several objects, and what copies of a store keep while it grows.
 
 use eden_ids::{GitNaming, Id, Kind, Naming, NoMemory, Sequence};
-use eden_objects::{ImportFault, Object, PutFault, Store, Word};
+use eden_objects::{ImportFault, Object, ObjectType, PutFault, Store};
 use std::alloc::Global;
 use std::process::Abort;
 use std::test::Fail;
 use test_kit::{FirstByte, push_entry};
 
 /// An object that is imported: its kind and its payload.
-type Part = (Word, &'static [u8]);
+type Part = (ObjectType, &'static [u8]);
 
 /// The objects of these kinds and payloads.
 fn objects_of(alloc: Global, parts: &[Part]) -> Result<Vec<Object>, Fail> {
     let mut objects = Vec::new(alloc);
-    for (word, payload) in parts {
+    for (object_type, payload) in parts {
         let payload = Sequence::from_vec(payload.to_vec(alloc)?);
         objects.push(Object {
-            word: *word,
+            object_type: *object_type,
             payload,
         })?;
     }
@@ -62,21 +62,21 @@ fn blobs(store: &Store<FirstByte>) -> Blobs<'_> {
     ]
 }
 
-const AB: Part = (Word::Blob, b"ab");
+const AB: Part = (ObjectType::Blob, b"ab");
 
-const AC: Part = (Word::Blob, b"ac");
+const AC: Part = (ObjectType::Blob, b"ac");
 
-const B: Part = (Word::Blob, b"b");
+const B: Part = (ObjectType::Blob, b"b");
 
-const C: Part = (Word::Blob, b"c");
+const C: Part = (ObjectType::Blob, b"c");
 
-const NONE: Part = (Word::Blob, b"");
+const NONE: Part = (ObjectType::Blob, b"");
 
 /// The tree without entries has no first byte.
-const EMPTY: Part = (Word::Tree, b"");
+const EMPTY: Part = (ObjectType::Tree, b"");
 
 /// Another kind of object is another object.
-const CUT: Part = (Word::Tree, b"ab");
+const CUT: Part = (ObjectType::Tree, b"ab");
 
 const NO_BLOB: Blobs<'static> = [None; 3];
 
@@ -117,33 +117,33 @@ fn import_refusals(rt: HostRuntime) -> Result<(), Fail> {
 // Here the ids are those that `git hash-object` and `git mktree` give to the same bytes.
 
 /// Two files.
-const X: Part = (Word::Blob, b"x");
+const X: Part = (ObjectType::Blob, b"x");
 
-const Y: Part = (Word::Blob, b"y");
+const Y: Part = (ObjectType::Blob, b"y");
 
 /// A tree that has the first one as `a`, and a tree that has this tree as `d`.
 const A: Part = (
-    Word::Tree,
+    ObjectType::Tree,
     b"100644 a\0\xc1\xb0\x73\x0e\x01\x33\x44\x7b\xad\xcf\xd4\x7f\xd1\x44\xe2\x54\x80\x7b\x06\xe1",
 );
 
 const D: Part = (
-    Word::Tree,
+    ObjectType::Tree,
     b"40000 d\0\xae\xbd\xa9\xdc\x3b\xa9\xfc\xf1\x57\xd9\x84\xe4\x87\x50\x52\xd3\x13\xf5\x1a\x60",
 );
 
 /// The commits of both trees, and what would be one of a file.
 const OF_A: Part = (
-    Word::Commit,
+    ObjectType::Commit,
     b"tree aebda9dc3ba9fcf157d984e4875052d313f51a60\n",
 );
 
 const OF_D: Part = (
-    Word::Commit,
+    ObjectType::Commit,
     b"tree 5ab25eb7b77ecd6c06f51efc523e84c74fb24ddb\n",
 );
 
-const OF_X: Part = (Word::Commit, TREE_X);
+const OF_X: Part = (ObjectType::Commit, TREE_X);
 
 const TREE_X: &[u8] = b"tree c1b0730e0133447badcfd47fd144e254807b06e1\n";
 
@@ -207,7 +207,9 @@ fn check_imports(rt: &impl Abort, store: &mut Store<GitNaming>) -> Result<(), Fa
         assert!(rt; letters.as_slice() == held.as_bytes(), "{parts:?}");
     }
     let file = store.file(id_of(IDS[5].1)?, b"d/a".as_slice());
-    assert!(rt; file == Some((Kind::Plain, b"x".as_slice())));
+    assert!(rt;
+        file.is_some_and(|(kind, bytes)| kind == Kind::Plain && bytes.as_slice() == b"x".as_slice())
+    );
     Ok(())
 }
 
@@ -228,10 +230,17 @@ fn fault_in(store: &mut Store<GitNaming>, objects: &[Object]) -> Result<Option<P
 }
 
 /// The fault of an object behind two others that are not refused, if that is told of the third place and nothing is imported.
-fn fault_of_third(alloc: Global, word: Word, payload: Vec<u8>) -> Result<Option<PutFault>, Fail> {
+fn fault_of_third(
+    alloc: Global,
+    object_type: ObjectType,
+    payload: Vec<u8>,
+) -> Result<Option<PutFault>, Fail> {
     let mut objects = objects_of(alloc, [X, A].as_slice())?;
     let payload = Sequence::from_vec(payload);
-    objects.push(Object { word, payload })?;
+    objects.push(Object {
+        object_type,
+        payload,
+    })?;
     let mut store = Store::new(alloc, GitNaming);
     fault_in(&mut store, objects.as_slice())
 }
@@ -273,18 +282,18 @@ fn entries_of(alloc: Global, entries: &[Entry]) -> Result<Vec<u8>, Fail> {
 }
 
 /// Payloads that no object has, and why.
-const BAD_PAYLOADS: &[(Word, &[u8], PutFault)] = &[
-    (Word::Tree, b"100644 b", PutFault::CutShort),
-    (Word::Commit, b"tree ", PutFault::CutShort),
-    (Word::Commit, &[b't'; 46], PutFault::BadCommit),
-    (Word::Commit, TREE_X, PutFault::WrongChildKind),
+const BAD_PAYLOADS: &[(ObjectType, &[u8], PutFault)] = &[
+    (ObjectType::Tree, b"100644 b", PutFault::CutShort),
+    (ObjectType::Commit, b"tree ", PutFault::CutShort),
+    (ObjectType::Commit, &[b't'; 46], PutFault::BadCommit),
+    (ObjectType::Commit, TREE_X, PutFault::WrongChildKind),
 ];
 
 /// The row of the first tree that is not refused as it says.
 fn first_wrong_tree(alloc: Global) -> Result<Option<usize>, Fail> {
     for (row, (entries, fault)) in BAD_TREES.iter().enumerate() {
         let payload = entries_of(alloc, entries)?;
-        if fault_of_third(alloc, Word::Tree, payload)? != Some(*fault) {
+        if fault_of_third(alloc, ObjectType::Tree, payload)? != Some(*fault) {
             return Ok(Some(row));
         }
     }
@@ -293,9 +302,9 @@ fn first_wrong_tree(alloc: Global) -> Result<Option<usize>, Fail> {
 
 /// The row of the first payload that is not.
 fn first_wrong_payload(alloc: Global) -> Result<Option<usize>, Fail> {
-    for (row, (word, payload, fault)) in BAD_PAYLOADS.iter().enumerate() {
+    for (row, (object_type, payload, fault)) in BAD_PAYLOADS.iter().enumerate() {
         let payload = payload.to_vec(alloc)?;
-        if fault_of_third(alloc, *word, payload)? != Some(*fault) {
+        if fault_of_third(alloc, *object_type, payload)? != Some(*fault) {
             return Ok(Some(row));
         }
     }
@@ -307,10 +316,10 @@ fn imports_are_refused_for_each_fault(rt: HostRuntime) -> Result<(), Fail> {
     let alloc = rt.alloc();
     assert_eq!(rt; first_wrong_tree(alloc)?, None);
     assert_eq!(rt; first_wrong_payload(alloc)?, None);
-    for word in &[Word::Blob, Word::Tree, Word::Commit] {
+    for object_type in &[ObjectType::Blob, ObjectType::Tree, ObjectType::Commit] {
         let large = vec![in alloc; b'a'; 8_388_609]?;
-        let fault = fault_of_third(alloc, *word, large)?;
-        assert!(rt; fault == Some(PutFault::TooLarge), "{word:?}");
+        let fault = fault_of_third(alloc, *object_type, large)?;
+        assert!(rt; fault == Some(PutFault::TooLarge), "{object_type:?}");
     }
     Ok(())
 }
@@ -320,8 +329,14 @@ fn only(alloc: Global, mode: &str, name: &[u8], id: Id) -> Result<(Object, Id), 
     let mut payload = Vec::new(alloc);
     push_entry(&mut payload, mode, name, id)?;
     let id = GitNaming.id_of(b"tree".as_slice(), payload.as_slice());
-    let (word, payload) = (Word::Tree, Sequence::from_vec(payload));
-    Ok((Object { word, payload }, id))
+    let (object_type, payload) = (ObjectType::Tree, Sequence::from_vec(payload));
+    Ok((
+        Object {
+            object_type,
+            payload,
+        },
+        id,
+    ))
 }
 
 /// A file and so many trees, each of which has the one before as its only entry, with a name of this length.
@@ -448,7 +463,7 @@ fn add_numbered(alloc: Global, objects: &mut Vec<Object>, ids: &mut Vec<Id>) -> 
         ids.push(GitNaming.id_of(b"blob".as_slice(), text.as_slice()))?;
         let payload = Sequence::from_vec(text);
         objects.push(Object {
-            word: Word::Blob,
+            object_type: ObjectType::Blob,
             payload,
         })?;
     }

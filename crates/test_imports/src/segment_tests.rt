@@ -1,7 +1,7 @@
 //! The table that a store stands in: what it and copies of it keep while it grows, also where a growth is refused.
 
 use eden_ids::{GitNaming, Id, Naming, NoMemory};
-use eden_segments::{Share, Shared, Table};
+use eden_segments::{Counted, Share, Table};
 use std::alloc::{AllocError, Global};
 use std::process::Abort;
 use std::test::Fail;
@@ -66,7 +66,7 @@ fn value_of<V: Drop + Send + Sync>(table: &Table<V>, id: Id) -> Option<&V> {
 }
 
 /// Whether a table has just the rows whose numbers are below the limit: the rows about the limit are looked at, and some of the others.
-fn has_just(table: &Table<Shared<u16>>, ids: &[Id], limit: usize) -> bool {
+fn has_just(table: &Table<Counted<u16>>, ids: &[Id], limit: usize) -> bool {
     ids.iter()
         .enumerate()
         .filter(|(number, _)| number % 64 == 0 || number.abs_diff(limit) <= 2)
@@ -79,13 +79,13 @@ fn has_just(table: &Table<Shared<u16>>, ids: &[Id], limit: usize) -> bool {
 /// Adds the rows one by one, and a copy after each.
 fn add_rows(
     rt: &impl Abort,
-    table: &mut Table<Shared<u16>>,
-    copies: &mut Vec<Table<Shared<u16>>>,
+    table: &mut Table<Counted<u16>>,
+    copies: &mut Vec<Table<Counted<u16>>>,
     ids: Ids,
 ) -> Result<(), Fail> {
     let alloc = table.allocator();
     for number in 0..ROWS {
-        let value = Shared::new(alloc, number)?;
+        let value = Counted::new(alloc, number)?;
         assert!(rt; add_row(table, ids.id(number), value)?);
         copies.push(table.share()?)?;
     }
@@ -93,7 +93,7 @@ fn add_rows(
 }
 
 /// The first copy that has other rows than those up to its own.
-fn first_wrong(copies: &[Table<Shared<u16>>], ids: &[Id]) -> Option<usize> {
+fn first_wrong(copies: &[Table<Counted<u16>>], ids: &[Id]) -> Option<usize> {
     for (place, copy) in copies.iter().enumerate() {
         if !has_just(copy, ids, place + 1) {
             return Some(place);
@@ -103,7 +103,7 @@ fn first_wrong(copies: &[Table<Shared<u16>>], ids: &[Id]) -> Option<usize> {
 }
 
 /// Whether the value of an id is this number.
-fn holds(table: &Table<Shared<u16>>, id: Id, number: u16) -> bool {
+fn holds(table: &Table<Counted<u16>>, id: Id, number: u16) -> bool {
     match value_of(table, id) {
         Some(value) => **value == number,
         None => false,
@@ -112,22 +112,22 @@ fn holds(table: &Table<Shared<u16>>, id: Id, number: u16) -> bool {
 
 /// A copy and what it was taken from grow apart: the id of one row more has a value of its own in each.
 fn grow_apart(
-    table: &mut Table<Shared<u16>>,
-    copy: &mut Table<Shared<u16>>,
+    table: &mut Table<Counted<u16>>,
+    copy: &mut Table<Counted<u16>>,
     last: Id,
 ) -> Result<bool, Fail> {
     let alloc = table.allocator();
-    let added = add_row(copy, last, Shared::new(alloc, 7)?)?
+    let added = add_row(copy, last, Counted::new(alloc, 7)?)?
         && value_of(table, last).is_none()
-        && add_row(table, last, Shared::new(alloc, 8)?)?;
+        && add_row(table, last, Counted::new(alloc, 8)?)?;
     Ok(added && holds(copy, last, 7) && holds(table, last, 8))
 }
 
 /// Checks the copies that are taken while a table grows, and that the last of them grows apart from it.
 fn check_copies(
     rt: &impl Abort,
-    table: &mut Table<Shared<u16>>,
-    copies: &mut Vec<Table<Shared<u16>>>,
+    table: &mut Table<Counted<u16>>,
+    copies: &mut Vec<Table<Counted<u16>>>,
     ids: Ids,
 ) -> Result<(), Fail> {
     add_rows(rt, table, copies, ids)?;

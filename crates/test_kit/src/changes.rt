@@ -1,8 +1,9 @@
 //! Changes, the paths and contents of which they are made, and filters.
 
+use bytes::Bytes;
 use eden_globs::Filter;
 use eden_history::Change;
-use eden_ids::{Content, Kind, Path, Sequence};
+use eden_ids::{Content, Kind, Path};
 use std::alloc::Global;
 use std::test::Fail;
 
@@ -50,6 +51,6 @@ pub fn write_too_large(alloc: Global) -> Result<Change, Fail> {
     Ok(Change::Write {
         path: path(alloc, "a")?,
         kind: Kind::Plain,
-        bytes: Sequence::from_vec(vec![in alloc; 0u8; 8_388_609]?),
+        bytes: Bytes::from_vec(vec![in alloc; 0u8; 8_388_609]?)?,
     })
 }

@@ -4,7 +4,7 @@ use crate::lot::Lot;
 use crate::payload::{commit_of, push_entry};
 use eden_history::Change;
 use eden_ids::{GitNaming, Id, Naming, Sequence};
-use eden_objects::{Object, Word};
+use eden_objects::{Object, ObjectType};
 use std::alloc::Global;
 use std::test::Fail;
 
@@ -64,11 +64,14 @@ struct Batch<'a> {
 
 impl Batch<'_> {
     /// Adds an object, and gives its id. Now and then it is left out, so that an object that names it may name none.
-    fn add(&mut self, word: Word, payload: Vec<u8>) -> Result<Id, Fail> {
-        let id = GitNaming.id_of(word.text(), payload.as_slice());
+    fn add(&mut self, object_type: ObjectType, payload: Vec<u8>) -> Result<Id, Fail> {
+        let id = GitNaming.id_of(object_type.text(), payload.as_slice());
         if self.lot.below(20) > 0 {
             let payload = Sequence::from_vec(payload);
-            self.objects.push(Object { word, payload })?;
+            self.objects.push(Object {
+                object_type,
+                payload,
+            })?;
         }
         Ok(id)
     }
@@ -76,7 +79,7 @@ impl Batch<'_> {
     /// Adds what a branch names, and the branch to a tree. Now and then a file has the mode of a directory.
     fn grow(&mut self, tree: &mut Vec<u8>, branch: Branch) -> Result<(), Fail> {
         let text = TEXTS[self.lot.below(4)].as_bytes().to_vec(self.alloc)?;
-        let mut id = self.add(Word::Blob, text)?;
+        let mut id = self.add(ObjectType::Blob, text)?;
         let mut mode = MODES[self.lot.below(3)];
         if self.lot.below(20) == 0 {
             mode = "40000";
@@ -85,7 +88,7 @@ impl Batch<'_> {
         for name in below {
             let mut directory = Vec::new(self.alloc);
             push_entry(&mut directory, mode, name.as_bytes(), id)?;
-            id = self.add(Word::Tree, directory)?;
+            id = self.add(ObjectType::Tree, directory)?;
             mode = "40000";
         }
         Ok(push_entry(tree, mode, top.as_bytes(), id)?)
@@ -97,8 +100,8 @@ impl Batch<'_> {
         for branch in TREES[self.lot.below(4)] {
             self.grow(&mut tree, *branch)?;
         }
-        let tree = self.add(Word::Tree, tree)?;
-        self.add(Word::Commit, commit_of(self.alloc, tree, "")?)
+        let tree = self.add(ObjectType::Tree, tree)?;
+        self.add(ObjectType::Commit, commit_of(self.alloc, tree, "")?)
     }
 }
 

@@ -23,7 +23,7 @@ pub use crate::generated::{Bodies, framed};
 pub use crate::imports::Roots;
 pub use crate::lot::{LOT_PATHS, Lot};
 pub use crate::naming::FirstByte;
-pub use crate::objects::Objects;
+pub use crate::objects::{Objects, PUT_FAULTS};
 pub use crate::outcomes::Outcomes;
 pub use crate::payload::{commit_of, push_entry, tree_of};
 pub use crate::played::Played;

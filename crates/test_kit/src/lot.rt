@@ -4,9 +4,10 @@ ghost use Rattle.std.specs.Prelude.{◌<◌};
 
 use crate::changes::path;
 use crate::imports::Roots;
+use bytes::Bytes;
 use eden_globs::Filter;
 use eden_history::{Change, Mode, Position};
-use eden_ids::{Files, Kind, Path, Sequence};
+use eden_ids::{Files, Kind, Path};
 use eden_messages::{Query, Request};
 use rand_core::utils::NextWord;
 use rand_pcg::Pcg32;
@@ -153,7 +154,7 @@ impl Lot {
             _ => {
                 let kind = KINDS[self.below(3)];
                 let text = ["x", "y"][self.below(2)];
-                let bytes = Sequence::from_vec(text.as_bytes().to_vec(alloc)?);
+                let bytes = Bytes::copy_from_slice(alloc, text.as_bytes())?;
                 Change::Write { path, kind, bytes }
             }
         })

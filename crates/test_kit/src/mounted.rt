@@ -1,6 +1,7 @@
 //! What stands for a mount, asked as the lines of a script ask.
 
 use crate::played::Played;
+use bytes::Bytes;
 use eden_globs::Filter;
 use eden_history::{Answer, Change, ChangeFault, Marked, Position, SinceFault};
 use eden_ids::{Content, GitNaming, Id, Kind, Path, PathTable, Sequence};
@@ -23,9 +24,9 @@ pub(crate) struct Mounted<P> {
 }
 
 /// The kind and the bytes of a file.
-fn seen(content: &Option<Content>) -> Option<(Kind, &[u8])> {
+fn seen(content: &Option<Content>) -> Option<(Kind, &Bytes)> {
     let content = content.as_ref()?;
-    Some((content.kind, content.bytes.as_slice()))
+    Some((content.kind, &content.bytes))
 }
 
 /// Why there is no file at a path at which none of these files stands.

@@ -3,13 +3,31 @@
 use crate::labels::Labels;
 use crate::payload::{commit_of, push_entry};
 use eden_ids::{GitNaming, Id, Sequence};
-use eden_objects::{Importer, Object, PutFault, Store, Word};
+use eden_objects::{Importer, Object, ObjectType, PutFault, Store};
 use eden_script::{
     Command, Label, PutLine, Refusal, TreeEntry, push_id_line, push_ok, push_refusal, words,
 };
 use std::alloc::Global;
 use std::str;
 use std::test::Fail;
+
+/// The faults of objects, in the order of their numbers from 1 on.
+pub const PUT_FAULTS: &[PutFault] = &[
+    PutFault::TooLarge,
+    PutFault::IdTaken,
+    PutFault::ZeroId,
+    PutFault::BadMode,
+    PutFault::BadName,
+    PutFault::OutOfOrder,
+    PutFault::Duplicate,
+    PutFault::MissingChild,
+    PutFault::WrongChildKind,
+    PutFault::TooDeep,
+    PutFault::PathTooLong,
+    PutFault::CutShort,
+    PutFault::BadCommit,
+    PutFault::NoMemory,
+];
 
 /// A store that was made by lines of a script, and what its labels are bound to.
 #[derive(Drop)]
@@ -103,21 +121,27 @@ impl Objects {
 
     /// The object that a line names, or none where a label in it is not bound.
     pub(crate) fn object_of(&self, alloc: Global, line: &PutLine) -> Result<Option<Object>, Fail> {
-        let (word, payload) = match line {
-            PutLine::Blob { bytes, .. } => (Word::Blob, Some(bytes.as_bytes().to_vec(alloc)?)),
+        let (object_type, payload) = match line {
+            PutLine::Blob { bytes, .. } => (
+                ObjectType::Blob,
+                Some(bytes.as_bytes().to_vec(alloc)?),
+            ),
             PutLine::Tree { entries, .. } => {
-                (Word::Tree, self.tree_payload(alloc, entries.as_slice())?)
+                (
+                    ObjectType::Tree,
+                    self.tree_payload(alloc, entries.as_slice())?,
+                )
             }
             PutLine::Commit { tree, .. } => {
                 let payload = match self.labels.get(tree.as_bytes()) {
                     Some(tree) => Some(commit_of(alloc, tree, "")?),
                     None => None,
                 };
-                (Word::Commit, payload)
+                (ObjectType::Commit, payload)
             }
         };
         Ok(payload.map(|payload| Object {
-            word,
+            object_type,
             payload: Sequence::from_vec(payload),
         }))
     }
@@ -165,7 +189,7 @@ impl Objects {
         let put = match self.object_of(alloc, &line)? {
             Some(object) => {
                 let payload = object.payload.as_slice();
-                Some(self.store.put_object(object.word, payload))
+                Some(self.store.put_object(object.object_type, payload))
             }
             None => None,
         };

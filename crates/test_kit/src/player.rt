@@ -6,9 +6,10 @@ use crate::objects::{Objects, command_of};
 use crate::played::Played;
 use crate::rows::{ANSWER_ROWS, CHANGE_ROWS, LABEL_ROWS, OBJECT_ROWS, Row};
 use crate::text::{differing_line, lines};
+use bytes::Bytes;
 use eden_globs::{Filter, FilterFault};
 use eden_history::{Answer, Change, ChangeFault, Position};
-use eden_ids::{Id, Path, Sequence};
+use eden_ids::{Id, Path};
 use eden_objects::CommitFault;
 use eden_script::{
     AskLine, ChangeLine, Command, Label, MountLine, PutLine, Refusal, Word, push_all_marked,
@@ -31,9 +32,9 @@ fn commit_of(labels: &Labels, label: &Label) -> Result<Id, Refusal> {
 }
 
 /// The bytes of a word.
-fn bytes_of(alloc: Global, word: &Word) -> Result<Sequence<u8>, Refusal> {
-    match word.as_bytes().to_vec(alloc) {
-        Ok(bytes) => Ok(Sequence::from_vec(bytes)),
+fn bytes_of(alloc: Global, word: &Word) -> Result<Bytes, Refusal> {
+    match Bytes::copy_from_slice(alloc, word.as_bytes()) {
+        Ok(bytes) => Ok(bytes),
         Err(_) => Err(Refusal::File(ChangeFault::NoMemory)),
     }
 }
@@ -256,7 +257,7 @@ impl<P: Played + Drop> Player<P> {
     }
 
     /// Does what a line asks for.
-    fn tell(&mut self, command: Command) -> Result<(), Fail> {
+    fn run(&mut self, command: Command) -> Result<(), Fail> {
         match command {
             Command::Put(line) => self.put(line),
             Command::Id { label } => self.objects.tell_id(&label, &mut self.text),
@@ -276,7 +277,7 @@ fn wrong_line<P: Played + Drop>(alloc: Global, row: &Row) -> Result<Option<usize
         text: Vec::new(alloc),
     };
     for line in row.script.split(';') {
-        player.tell(command_of(alloc, line)?)?;
+        player.run(command_of(alloc, line)?)?;
     }
     let wanted = lines(alloc, row.prints)?;
     Ok(differing_line(player.text.as_slice(), wanted.as_slice()))

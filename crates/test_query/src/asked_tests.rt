@@ -6,7 +6,7 @@ use eden_globs::Filter;
 use eden_history::Mark;
 use eden_ids::{GitNaming, Kind};
 use eden_query::{answer, append_reply};
-use eden_shared::{AuditFault, Audited, Settled};
+use eden_shared::{AuditFault, Audited, CallOutcome};
 use std::alloc::Global;
 use std::test::Fail;
 use test_wire::{
@@ -80,7 +80,7 @@ fn is_served(alloc: Global, audited: &mut Audited<GitNaming>) -> Result<bool, Fa
 }
 
 /// Returns the caller, the ticket and the outcome of each entry of the stored history.
-fn kept(alloc: Global, audited: &Audited<GitNaming>) -> Result<Vec<(u64, u64, Settled)>, Fail> {
+fn kept(alloc: Global, audited: &Audited<GitNaming>) -> Result<Vec<(u64, u64, CallOutcome)>, Fail> {
     let mut kept = Vec::new(alloc);
     for entry in audited.entries() {
         kept.push((entry.caller, entry.ticket, entry.outcome))?;
@@ -91,7 +91,7 @@ fn kept(alloc: Global, audited: &Audited<GitNaming>) -> Result<Vec<(u64, u64, Se
 /// Returns whether the frames are stored as caller 0's, and an audit accepts them as its calls and as no other caller's.
 fn are_of_caller_0(alloc: Global, audited: &mut Audited<GitNaming>) -> Result<bool, Fail> {
     take_all(alloc, audited, WRITTEN)?;
-    let at = Settled::At(position(2, EMPTY));
+    let at = CallOutcome::At(position(2, EMPTY));
     let wanted = [(2, 1, at), (0, 2, at), (0, 3, at), (0, 4, at)];
     if !is_served(alloc, audited)? || kept(alloc, audited)?.as_slice() != wanted.as_slice() {
         return Ok(false);

@@ -3,8 +3,8 @@
 use crate::calls::opened;
 use eden_history::{Change, ChangeFault, Mark};
 use eden_ids::{GitNaming, Sequence};
-use eden_logs::{Answer, Call};
-use eden_objects::{Object, PutFault, Word};
+use eden_logs::{Call, CallAnswer};
+use eden_objects::{Object, ObjectType, PutFault};
 use eden_query::Served;
 use eden_shared::{AuditFault, Audited, CallLog, LogEntry, audit};
 use std::alloc::Global;
@@ -18,7 +18,7 @@ pub(crate) enum Asks {
     /// That an empty file is written there.
     Write(&'static str),
     /// That objects of these payloads are imported.
-    Import(Word, &'static [&'static str]),
+    Import(ObjectType, &'static [&'static str]),
     /// A question by its number.
     Question(u64, Asked),
 }
@@ -41,11 +41,18 @@ pub(crate) type Entry = (u64, Asks, Notes);
 /// A caller, and what it has noted.
 pub(crate) type Log<'a> = (u64, &'a [Entry]);
 
-fn objects(alloc: Global, word: Word, payloads: &[&str]) -> Result<Sequence<Object>, Fail> {
+fn objects(
+    alloc: Global,
+    object_type: ObjectType,
+    payloads: &[&str],
+) -> Result<Sequence<Object>, Fail> {
     let mut objects = Vec::new(alloc);
     for payload in payloads {
         let payload = Sequence::from_vec(payload.as_bytes().to_vec(alloc)?);
-        objects.push(Object { word, payload })?;
+        objects.push(Object {
+            object_type,
+            payload,
+        })?;
     }
     Ok(Sequence::from_vec(objects))
 }
@@ -53,21 +60,21 @@ fn objects(alloc: Global, word: Word, payloads: &[&str]) -> Result<Sequence<Obje
 fn call_of(alloc: Global, asks: Asks) -> Result<Call, Fail> {
     Ok(match asks {
         Asks::Write(at) => Call::Change(write(alloc, at, "")?),
-        Asks::Import(word, payloads) => Call::Change(Change::Import {
-            objects: objects(alloc, word, payloads)?,
+        Asks::Import(object_type, payloads) => Call::Change(Change::Import {
+            objects: objects(alloc, object_type, payloads)?,
         }),
         Asks::Question(number, asked) => Call::Ask(request_of(alloc, number, asked)?),
     })
 }
 
-fn answer_of(alloc: Global, notes: Notes) -> Result<Answer, Fail> {
+fn answer_of(alloc: Global, notes: Notes) -> Result<CallAnswer, Fail> {
     Ok(match notes {
-        Notes::At(number) => Answer::At(position(number, EMPTY)),
-        Notes::Bad(place, fault) => Answer::Refused(ChangeFault::BadObject { place, fault }),
+        Notes::At(number) => CallAnswer::At(position(number, EMPTY)),
+        Notes::Bad(place, fault) => CallAnswer::Refused(ChangeFault::BadObject { place, fault }),
         Notes::Replied(number, sequence, told) => {
-            Answer::Replied(reply_of(alloc, number, position(sequence, EMPTY), told)?)
+            CallAnswer::Replied(reply_of(alloc, number, position(sequence, EMPTY), told)?)
         }
-        Notes::Unanswered => Answer::Unanswered,
+        Notes::Unanswered => CallAnswer::Unanswered,
     })
 }
 
@@ -260,23 +267,23 @@ fn reply_of_another_state(rt: HostRuntime) -> Result<(), Fail> {
 }
 
 /// An import of an empty tree and of a text that is none, which is refused.
-const BAD: Asks = Asks::Import(Word::Tree, &["", "x"]);
+const BAD: Asks = Asks::Import(ObjectType::Tree, &["", "x"]);
 
 const RIGHT: Notes = Notes::Bad(1, PutFault::CutShort);
 
-const X_Y: Asks = Asks::Import(Word::Blob, &["x", "y"]);
+const X_Y: Asks = Asks::Import(ObjectType::Blob, &["x", "y"]);
 
 /// Caller 1 has imported the files `x` and `y`, and then a tree that is none.
 const IMPORTED: &[(u64, Asks)] = &[(1, X_Y), (1, BAD)];
 
 /// Imports of other files: another one, the two in another order, one less, and one more.
-const X_Z: Asks = Asks::Import(Word::Blob, &["x", "z"]);
+const X_Z: Asks = Asks::Import(ObjectType::Blob, &["x", "z"]);
 
-const Y_X: Asks = Asks::Import(Word::Blob, &["y", "x"]);
+const Y_X: Asks = Asks::Import(ObjectType::Blob, &["y", "x"]);
 
-const X: Asks = Asks::Import(Word::Blob, &["x"]);
+const X: Asks = Asks::Import(ObjectType::Blob, &["x"]);
 
-const X_Y_Y: Asks = Asks::Import(Word::Blob, &["x", "y", "y"]);
+const X_Y_Y: Asks = Asks::Import(ObjectType::Blob, &["x", "y", "y"]);
 
 /// The first import as it is noted, the number to which its answer leads, the second answer, and what is said of both.
 type TwoCalls = (Asks, u64, Notes, Result<(), AuditFault>);

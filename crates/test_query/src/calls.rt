@@ -5,7 +5,7 @@ use eden_globs::Filter;
 use eden_ids::{GitNaming, Id};
 use eden_messages::Reply;
 use eden_objects::Store;
-use eden_query::{Raw, ServeFault, Served, answer, serve};
+use eden_query::{Raw, ServeFault, Served, answer, serve, serve_writable};
 use eden_stream::Counted;
 use std::alloc::Global;
 use std::io::Read;
@@ -39,6 +39,19 @@ pub(crate) fn served<T: Served<GitNaming>, R: Read + Drop>(
     let mut reader = Counted::new(source);
     let mut writer = Counted::new(&mut written);
     let ended = serve(alloc, &mut reader, &mut writer, server);
+    (written, ended)
+}
+
+/// The same of frames that may ask for changes.
+pub(crate) fn served_writable<T: Served<GitNaming>, R: Read + Drop>(
+    alloc: Global,
+    source: R,
+    server: &mut T,
+) -> (Vec<u8>, Result<u64, ServeFault>) {
+    let mut written = Vec::new(alloc);
+    let mut reader = Counted::new(source);
+    let mut writer = Counted::new(&mut written);
+    let ended = serve_writable(alloc, &mut reader, &mut writer, server);
     (written, ended)
 }
 

@@ -45,7 +45,7 @@ fn add_ahead(alloc: Global, frames: &mut Exchange, polls: usize) -> Result<(), F
 }
 
 /// Adds a poll that is refused, and a frame of each kind.
-fn add_five(alloc: Global, frames: &mut Exchange) -> Result<(), Fail> {
+fn add_each_kind(alloc: Global, frames: &mut Exchange) -> Result<(), Fail> {
     add_ahead(alloc, frames, 1)?;
     for (frame, reply) in KNOWN {
         let (frame, reply) = (joined(alloc, frame)?, joined(alloc, reply)?);
@@ -79,8 +79,8 @@ fn first_wrong(
     alloc: Global,
     frames: &mut Exchange,
 ) -> Result<Option<(&'static str, usize)>, Fail> {
-    add_five(alloc, frames)?;
-    if frames.count() != 5 || !are_served(alloc, frames)? {
+    add_each_kind(alloc, frames)?;
+    if frames.count() != 6 || !are_served(alloc, frames)? {
         return Ok(Some(("all", 0)));
     }
     for most in [usize::MAX, 1, 3] {

@@ -7,15 +7,15 @@ use eden_query::{ServeFault, fault_of_frame};
 use std::alloc::Global;
 use std::test::Fail;
 use test_kit::{Bodies, framed};
-use test_wire::{REQUEST_TAGS, plain_fault};
+use test_wire::{QUESTION_TAGS, plain_fault};
 
-/// Returns whether a body's frame is served where the plain reader reads a request, and else ends the serving by the plain reader's fault.
+/// Returns whether a body's frame is served where the plain reader reads a question, and else ends the serving by the plain reader's fault.
 fn is_served_plainly(
     alloc: Global,
     mount: &mut Mount<GitNaming>,
     body: &[u8],
 ) -> Result<bool, Fail> {
-    let wanted = match plain_fault(body, REQUEST_TAGS.as_slice()) {
+    let wanted = match plain_fault(body, QUESTION_TAGS.as_slice()) {
         None => Ok(1),
         Some(fault) => {
             let fault = fault_of_frame(fault).ok_or("a plain reader wants memory")?;

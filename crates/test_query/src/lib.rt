@@ -1,7 +1,5 @@
 //! Tests of serving: requests over a mount, by calls and by frames that devices give and take all at once, little at a time, or not at all; what
 //! was held for a request while the mount goes on; and audits of what was asked.
-//!
-//! A crate of its own, so that no crate that ships waits for them.
 #![tactic(auto)]
 
 #[cfg(test)]
@@ -22,3 +20,5 @@ mod listed_tests;
 mod row_tests;
 #[cfg(test)]
 mod serving_tests;
+#[cfg(test)]
+mod writable_tests;

@@ -1,9 +1,10 @@
 //! Frames of requests and what a mount replies, in whatever pieces they come.
 
 use crate::calls::{opened, served};
+use bytes::Bytes;
 use eden_accumulate::Mount;
 use eden_history::Change;
-use eden_ids::{GitNaming, Kind, Path, Sequence};
+use eden_ids::{GitNaming, Kind, Path};
 use eden_query::{FrameFault, ServeFault};
 use std::alloc::Global;
 use std::test::Fail;
@@ -16,7 +17,7 @@ const VALUES: [u8; 16] = [
 ];
 
 /// A root of the empty commit.
-const ROOT: [u8; 20] = [0; 20];
+pub(crate) const ROOT: [u8; 20] = [0; 20];
 
 /// The last bytes of the generation 7 and of its first number.
 const FIRST: [u8; 16] = [0, 0, 0, 0, 0, 0, 0, 7, 0, 0, 0, 0, 0, 0, 0, 1];
@@ -25,10 +26,10 @@ const FIRST: [u8; 16] = [0, 0, 0, 0, 0, 0, 0, 7, 0, 0, 0, 0, 0, 0, 0, 1];
 const THIRD: [u8; 16] = [0, 0, 0, 0, 0, 0, 0, 7, 0, 0, 0, 0, 0, 0, 0, 3];
 
 /// A poll since the first row of generation 7.
-const POLL: &[&[u8]] = &[&[0, 0, 0, 0x3f, 2, 2], &Q, &FIRST, &ROOT, &[0]];
+pub(crate) const POLL: &[&[u8]] = &[&[0, 0, 0, 0x3f, 2, 2], &Q, &FIRST, &ROOT, &[0]];
 
 /// The reply that tells no change up to that row.
-const NO_CHANGES: &[&[u8]] = &[&[0, 0, 0, 0x46, 2, 0x82], &Q, &FIRST, &ROOT, &[0; 8]];
+pub(crate) const NO_CHANGES: &[&[u8]] = &[&[0, 0, 0, 0x46, 2, 0x82], &Q, &FIRST, &ROOT, &[0; 8]];
 
 /// A fetch of `a`.
 const FETCH: &[&[u8]] = &[&[0, 0, 0, 0x1d, 2, 3], &Q, &[0, 1, b'a']];
@@ -36,6 +37,18 @@ const FETCH: &[&[u8]] = &[&[0, 0, 0, 0x1d, 2, 3], &Q, &[0, 1, b'a']];
 /// The reply that nothing stands there in that row.
 const ABSENT: &[&[u8]] = &[
     &[0, 0, 0, 0x42, 2, 0x83],
+    &Q,
+    &FIRST,
+    &ROOT,
+    &[0, 1, b'a', 0],
+];
+
+/// A stat of `a`.
+const STAT: &[&[u8]] = &[&[0, 0, 0, 0x1d, 2, 8], &Q, &[0, 1, b'a']];
+
+/// The reply that nothing stands there in that row.
+const NO_STAT: &[&[u8]] = &[
+    &[0, 0, 0, 0x42, 2, 0x88],
     &Q,
     &FIRST,
     &ROOT,
@@ -88,7 +101,7 @@ fn write(
     let change = Change::Write {
         path: Path::parse(alloc, at)?,
         kind,
-        bytes: Sequence::from_vec(text.to_vec(alloc)?),
+        bytes: Bytes::copy_from_slice(alloc, text)?,
     };
     let _ = mount.apply(&change)?;
     Ok(())
@@ -166,6 +179,7 @@ pub(crate) const KNOWN: &[(&[&[u8]], &[&[u8]])] = &[
     (BASIS, NO_PATHS),
     (POLL, NO_CHANGES),
     (LIST, NO_LIST),
+    (STAT, NO_STAT),
 ];
 
 #[test]
@@ -263,7 +277,7 @@ fn not_cut_short(alloc: Global, parts: &[&[u8]]) -> Result<Option<usize>, Fail> 
 
 #[test]
 fn frames_cut_short(rt: HostRuntime) -> Result<(), Fail> {
-    for frame in [POLL, FETCH, BASIS, LIST] {
+    for frame in [POLL, FETCH, BASIS, LIST, STAT] {
         assert_eq!(rt; not_cut_short(rt.alloc(), frame)?, None);
     }
     Ok(())
@@ -294,9 +308,9 @@ fn expected(place: usize, value: u8) -> Result<Written, FrameFault> {
         0 => Err(FrameFault::TooLarge),
         1..=3 => Err(FrameFault::CutShort),
         4 => Err(FrameFault::Version),
-        // A basis has an end where the position stands, and a fetch or a list a path, of which a generation is no length.
+        // A basis has an end where the position stands, and a fetch, a list or a stat a path, of which a generation is no length.
         5 if value == 1 => Err(FrameFault::Trailing),
-        5 if value == 3 || value == 4 => Err(FrameFault::BadField),
+        5 if value == 3 || value == 4 || value == 8 => Err(FrameFault::BadField),
         5 => Err(FrameFault::BadTag),
         // The query is the reply's.
         6..=29 => Ok(Written::ReplyWithByte),
@@ -457,6 +471,37 @@ const BELOW: &[&[u8]] = &[
     &[0, 1, b'e', 0, 0, 0, 0],
 ];
 
+/// The id of a file that holds `hi`, by `git hash-object`.
+const OF_HI: [u8; 20] = [
+    0x32, 0xf9, 0x5c, 0x0d, 0x12, 0x44, 0xa7, 0x8b, 0x2b, 0xe1, 0xba, 0xb8, 0xde, 0x17, 0x90, 0x6f,
+    0xab, 0xb2, 0xc4, 0xa8,
+];
+
+/// Stats of `d/a` and of `a`, where no file is, and their replies.
+const STATED: &[&[u8]] = &[
+    &[0, 0, 0, 0x1f, 2, 8],
+    &Q,
+    &D_A,
+    &[0, 0, 0, 0x1d, 2, 8],
+    &Q,
+    &[0, 1, b'a'],
+];
+
+const STATS: &[&[u8]] = &[
+    &[0, 0, 0, 0x5d, 2, 0x88],
+    &Q,
+    &THIRD,
+    &ROOT,
+    &D_A,
+    &[1, 2, 0, 0, 0, 2],
+    &OF_HI,
+    &[0, 0, 0, 0x42, 2, 0x88],
+    &Q,
+    &THIRD,
+    &ROOT,
+    &[0, 1, b'a', 0],
+];
+
 /// Returns whether a mount of the files `d/a` and `e`, which hold `hi`, answers two frames, which come in pieces of N bytes at the most, by
 /// two replies.
 fn answers_two(
@@ -504,6 +549,7 @@ const TWO_FRAMES: &[TwoFrames] = &[
     ("basis_of_a_pattern_and_a_file", ASKED, REPLIED, 1),
     ("poll_by_a_pattern", POLLED, CHANGED, usize::MAX),
     ("list_of_a_directory", LISTED, BELOW, 1),
+    ("stats_of_a_file_and_of_none", STATED, STATS, 1),
 ];
 
 #[test]

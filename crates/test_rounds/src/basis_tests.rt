@@ -1,8 +1,9 @@
 //! A basis whose body is as long as a frame's may be, and one that would be longer.
 
+use bytes::Bytes;
 use eden_accumulate::Mount;
 use eden_history::Change;
-use eden_ids::{GitNaming, Id, Kind, Path, Sequence};
+use eden_ids::{GitNaming, Id, Kind, Path};
 use eden_objects::Store;
 use eden_query::serve;
 use eden_stream::Counted;
@@ -36,7 +37,7 @@ fn write(alloc: Global, mount: &mut Mount<GitNaming>, path: Path) -> Result<(), 
     let change = Change::Write {
         path,
         kind: Kind::Plain,
-        bytes: Sequence::new(alloc),
+        bytes: Bytes::new(),
     };
     let _ = mount.apply(&change)?;
     Ok(())

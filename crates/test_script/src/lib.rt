@@ -1,7 +1,5 @@
 //! Tests of scripts: what each line prints, over devices that give and take all at once, little at a time, or fail,
 //! and scripts that are made to take long.
-//!
-//! A crate of its own, so that the program doesn't wait for them.
 #![tactic(auto)]
 
 #[cfg(test)]

@@ -29,7 +29,15 @@ fn outcome<
     port: u16,
     threads: u64,
 ) -> Result<(), DaemonFault> {
-    stay(rt, alloc, source, &mut Counted::new(sink), port, threads)
+    stay(
+        rt,
+        alloc,
+        source,
+        &mut Counted::new(sink),
+        port,
+        threads,
+        false,
+    )
 }
 
 /// A script, how it ends, and whether it gets to `listen`.

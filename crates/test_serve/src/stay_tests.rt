@@ -38,7 +38,7 @@ fn stay_until<
 ) -> Result<(), DaemonFault> {
     let feed = Feed::new(rt, script, LINES, b"".as_slice(), ended);
     let mut writer = Counted::new(Vec::new(alloc));
-    stay(rt, alloc, feed, &mut writer, port, threads)
+    stay(rt, alloc, feed, &mut writer, port, threads, false)
 }
 
 /// Eight clients ask so often each. Says whether all replies are right.

@@ -16,28 +16,9 @@ use std::time::{Clock, Duration};
 const LIMIT: u64 = 10;
 
 /// Runs a script, and serves its mount in this many threads until the script ends.
+///
+/// Clients may change the mount if it is writable.
 pub fn stay<
-    R: Threads
-        + Wait
-        + Clock
-        + Files<File = File>
-        + Net<Listener = TcpListener, Stream = TcpStream>
-        + Sync,
-    I: Read + Send + Drop,
-    W: CountedWrite,
->(
-    rt: &R,
-    alloc: Global,
-    script: I,
-    writer: &mut W,
-    port: u16,
-    threads: u64,
-) -> Result<(), DaemonFault> {
-    stay_on(rt, alloc, script, writer, port, threads, false)
-}
-
-/// Runs a script as `stay` does. Clients may change the mount if it is writable.
-pub(crate) fn stay_on<
     R: Threads
         + Wait
         + Clock

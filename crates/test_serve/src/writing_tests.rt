@@ -3,7 +3,7 @@
 use crate::asking::{QUERY, change_frame, poll_for};
 use crate::client::{ask, ask_change, connect, free_port};
 use crate::feed::Feed;
-use crate::staying::stay_on;
+use crate::staying::stay;
 use eden_globs::Filter;
 use eden_history::{ChangeFault, Mark, Position};
 use eden_ids::Id;
@@ -211,7 +211,7 @@ fn serve<
 >(rt: &R, alloc: Global, port: u16, writable: bool, ended: &AtomicBool) -> Result<(), DaemonFault> {
     let feed = Feed::new(rt, SCRIPT, b"", b"", ended);
     let mut writer = Counted::new(Vec::new(alloc));
-    stay_on(rt, alloc, feed, &mut writer, port, 2, writable)
+    stay(rt, alloc, feed, &mut writer, port, 2, writable)
 }
 
 // The daemon ends though a connection goes on to change the mount.

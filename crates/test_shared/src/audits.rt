@@ -6,14 +6,14 @@ use eden_accumulate::Mount;
 use eden_history::ChangeFault;
 use eden_ids::{GitNaming, Id, Sequence};
 use eden_objects::Store;
-use eden_shared::{Answer, AuditFault, Audited, CallLog, Desk, LogEntry, Pass, Shared, audit};
+use eden_shared::{AuditFault, Audited, CallAnswer, CallLog, Desk, LogEntry, Pass, Shared, audit};
 use std::alloc::Global;
 use std::process::Abort;
 use std::sync::ledger::{Blank, Ledger};
 use std::test::Fail;
 
 /// A mount that stores its history, behind a lock.
-pub(crate) type Behind<L> = Shared<GitNaming, Audited<GitNaming>, L>;
+pub(crate) type AuditedMount<L> = Shared<GitNaming, Audited<GitNaming>, L>;
 
 /// A lock over the mount of a commit, in generation 7.
 pub(crate) fn opened<L: Ledger>(
@@ -21,7 +21,7 @@ pub(crate) fn opened<L: Ledger>(
     store: Store<GitNaming>,
     root: Id,
     blank: Blank,
-) -> Result<Behind<L>, Fail>
+) -> Result<AuditedMount<L>, Fail>
     requires name { blank.name ≡ L.name }
     requires parts { blank.parts ≡ L.parts }
     requires whole { blank.parts ≡ 256 }
@@ -62,7 +62,7 @@ fn alter(entries: &mut Vec<LogEntry>, fault: AuditFault) -> Result<(), Fail> {
     let first = entries.first_mut().ok_or("an empty log")?;
     match fault {
         AuditFault::UnknownCall => first.ticket = u64::MAX,
-        AuditFault::WrongReply => first.answer = Answer::Refused(ChangeFault::TooLarge),
+        AuditFault::WrongReply => first.answer = CallAnswer::Refused(ChangeFault::TooLarge),
         AuditFault::OutOfOrder => {
             let again = copy_of(first)?;
             entries.push(again)?;
@@ -151,12 +151,10 @@ pub(crate) fn end_both<L: Ledger>(
 fn give_up<L: Ledger>(
     rt: &impl Abort,
     alloc: Global,
-    shared: Behind<L>,
+    shared: AuditedMount<L>,
     passes: Vec<Pass<L>>,
     logs: &[CallLog],
-) -> Result<(), Fail>
-    requires { L.parts ≡ 256 }
-{
+) -> Result<(), Fail> {
     let mut audited = shared.finish(passes)?;
     agree(rt, alloc, &mut audited, logs)
 }
@@ -165,11 +163,9 @@ fn give_up<L: Ledger>(
 pub(crate) fn close<L: Ledger>(
     rt: &impl Abort,
     alloc: Global,
-    shared: Behind<L>,
+    shared: AuditedMount<L>,
     given: Ended<L>,
-) -> Result<(), Fail>
-    requires { L.parts ≡ 256 }
-{
+) -> Result<(), Fail> {
     let Ended { passes, logs } = given;
     give_up(rt, alloc, shared, passes, logs.as_slice())
 }

@@ -5,7 +5,7 @@ use eden_history::{Change, Mode, Position};
 use eden_ids::{Id, Sequence};
 use eden_logs::Call;
 use eden_messages::{Query, Request};
-use eden_objects::{Object, Word};
+use eden_objects::{Object, ObjectType};
 use rand_core::utils::NextWord;
 use rand_pcg::Pcg32;
 use std::alloc::Global;
@@ -52,9 +52,14 @@ fn change_of(alloc: Global, draw: Draw) -> Result<Option<Change>, Fail> {
         3 => remove(alloc, draw.path)?,
         4 => rename(alloc, draw.path, draw.other)?,
         5 => {
-            let word = Word::Blob;
+            let object_type = ObjectType::Blob;
             let payload = Sequence::from_vec(draw.text.as_bytes().to_vec(alloc)?);
-            let objects = Sequence::from_vec(vec![in alloc; Object { word, payload }]?);
+            let objects = Sequence::from_vec(vec![in alloc;
+                Object {
+                    object_type,
+                    payload
+                },
+            ]?);
             Change::Import { objects }
         }
         6 => Change::RenameDir {

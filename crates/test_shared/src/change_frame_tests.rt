@@ -5,11 +5,11 @@ ghost use Rattle.eden_accumulate.specs.Mounts.{StandsFor};
 ghost use Rattle.eden_history.specs.Worlds.{WorldState};
 
 use crate::mounts::mounted;
+use crate::unlogged::serve_stream;
 use eden_accumulate::Mount;
 use eden_ids::GitNaming;
 use eden_query::{FrameFault, ServeFault};
-use eden_shared::{Origin, Present, Unlogged, serve_unlogged};
-use eden_stream::Counted;
+use eden_shared::{Origin, Unlogged};
 use std::alloc::Global;
 use std::marker::Brand;
 use std::sync::Wait;
@@ -219,19 +219,7 @@ fn end_behind<L: Origin, R: Wait + Clock>(
 {
     let (unlogged, mut passes) = Unlogged::<GitNaming, _, L>::new(mount, blank);
     let mut writing = if writable { passes.give().ok() } else { None };
-    let mut text = Vec::new(alloc);
-    let mut reader = Counted::new(stream);
-    let mut writer = Counted::new(&mut text);
-    let end = serve_unlogged(
-        rt,
-        alloc,
-        &mut reader,
-        &mut writer,
-        &unlogged,
-        &mut writing,
-        &Present,
-    );
-    (text, end)
+    serve_stream(rt, alloc, &unlogged, &mut writing, stream)
 }
 
 /// Returns the same, over a mount of its own.

@@ -6,6 +6,7 @@ ghost use Rattle.eden_history.specs.Worlds.{WorldState};
 
 use crate::change_frame_tests::add;
 use crate::mounts::mounted;
+use crate::unlogged::{UnloggedMount, ends_at};
 use eden_accumulate::Mount;
 use eden_ids::GitNaming;
 use eden_shared::{Origin, Pass, Passes, Present, Unlogged, serve_unlogged};
@@ -19,9 +20,6 @@ use std::test::Fail;
 use std::thread;
 use std::thread::Threads;
 use std::time::Clock;
-
-/// A mount of which nothing is logged, behind a lock.
-type Behind<L> = Unlogged<GitNaming, Mount<GitNaming>, L>;
 
 /// How often each connection writes, and asks for what it wrote.
 const ROUNDS: u8 = 100;
@@ -97,7 +95,7 @@ fn is_right(alloc: Global, at: u8, text: &[u8]) -> Result<bool, Fail> {
 fn serve<L: Origin, R: Wait + Clock>(
     rt: &R,
     alloc: Global,
-    unlogged: &Behind<L>,
+    unlogged: &UnloggedMount<L>,
     connection: Connection<L>,
 ) -> Connection<L> {
     let Connection {
@@ -128,7 +126,7 @@ fn serve<L: Origin, R: Wait + Clock>(
 fn serve_in_threads<L: Origin + Send + Sync, R: Threads + Wait + Clock + Sync>(
     rt: &R,
     alloc: Global,
-    unlogged: &Behind<L>,
+    unlogged: &UnloggedMount<L>,
     connections: Vec<Connection<L>>,
 ) -> Result<Vec<Connection<L>>, AllocError> {
     Ok(thread::map_vec(
@@ -159,7 +157,7 @@ fn two_connections<L: Origin>(
 fn serve_two<L: Origin + Send + Sync, R: Threads + Wait + Clock + Sync>(
     rt: &R,
     alloc: Global,
-    unlogged: &Behind<L>,
+    unlogged: &UnloggedMount<L>,
     passes: &mut Passes<L>,
 ) -> Result<bool, Fail> {
     let connections = two_connections(alloc, passes)?;
@@ -170,13 +168,6 @@ fn serve_two<L: Origin + Send + Sync, R: Threads + Wait + Clock + Sync>(
         right = right && is_right(alloc, at, text.as_slice())?;
     }
     Ok(right)
-}
-
-/// Finishes the lock, whose server has all changes.
-fn has_all<L: Origin>(rt: &impl Abort, unlogged: Behind<L>, passes: Passes<L>) -> Result<(), Fail> {
-    let mount = unlogged.finish(passes)?;
-    assert_eq!(rt; mount.position().sequence, 201);
-    Ok(())
 }
 
 fn two_threads<L: Origin + Send + Sync, R: Threads + Wait + Abort + Clock + Sync>(
@@ -193,7 +184,7 @@ fn two_threads<L: Origin + Send + Sync, R: Threads + Wait + Abort + Clock + Sync
     let (unlogged, mut passes) = Unlogged::<GitNaming, _, L>::new(mount, blank);
     let right = serve_two(rt, alloc, &unlogged, &mut passes)?;
     assert!(rt; right);
-    has_all(rt, unlogged, passes)
+    ends_at(rt, unlogged, passes, 201)
 }
 
 #[test]

@@ -2,7 +2,7 @@
 
 ghost use Rattle.std.specs.Prelude.{◌≡◌};
 
-use crate::audits::{Behind, Ended, close, opened};
+use crate::audits::{AuditedMount, Ended, close, opened};
 use crate::calls::calls_of;
 use eden_ids::Id;
 use eden_logs::Call;
@@ -24,7 +24,7 @@ const COMMITS: &str =
 /// Makes these calls at a desk. Returns whether each is answered.
 fn make_all<L: Ledger>(
     rt: &impl Wait,
-    shared: &Behind<L>,
+    shared: &AuditedMount<L>,
     desk: &mut Desk<L>,
     calls: &[Call],
 ) -> bool {
@@ -44,7 +44,7 @@ fn make_all<L: Ledger>(
 fn call_all<L: Ledger>(
     rt: &impl Wait,
     alloc: Global,
-    shared: &Behind<L>,
+    shared: &AuditedMount<L>,
     calls: Vec<Call>,
 ) -> Option<(Pass<L>, CallLog)> {
     let mut desk = Desk::new(alloc, shared.pass(rt).ok()?);
@@ -80,7 +80,7 @@ fn add<L: Ledger>(
 fn call_in_threads<L: Ledger + Send + Sync, R: Threads + Wait + Abort + Sync>(
     rt: &R,
     alloc: Global,
-    shared: &Behind<L>,
+    shared: &AuditedMount<L>,
     commits: &[Id; 2],
 ) -> Result<Ended<L>, Fail> {
     let jobs = jobs_of(alloc, commits)?;
@@ -99,11 +99,9 @@ fn call_in_threads<L: Ledger + Send + Sync, R: Threads + Wait + Abort + Sync>(
 fn call_and_close<L: Ledger + Send + Sync, R: Threads + Wait + Abort + Sync>(
     rt: &R,
     alloc: Global,
-    shared: Behind<L>,
+    shared: AuditedMount<L>,
     commits: &[Id; 2],
-) -> Result<(), Fail>
-    requires { L.parts ≡ 256 }
-{
+) -> Result<(), Fail> {
     let given = call_in_threads(rt, alloc, &shared, commits)?;
     close(rt, alloc, shared, given)
 }

@@ -2,7 +2,7 @@
 
 ghost use Rattle.std.specs.Prelude.{◌≡◌};
 
-use crate::audits::{Behind, Ended, close, end_both, opened};
+use crate::audits::{AuditedMount, Ended, close, end_both, opened};
 use eden_ids::{GitNaming, Id};
 use eden_messages::{Query, Request};
 use eden_objects::Store;
@@ -36,6 +36,12 @@ const PATIENT: &[&[u8]] = &[
 /// A flush, which a desk is not asked by frames.
 const FLUSH: &[&[u8]] = &[&[0, 0, 0, 0x1b, 2, 6], &Q, &[6]];
 
+/// A stat of `a`, which is asked as that fetch.
+const STAT: &[&[u8]] = &[&[0, 0, 0, 0x1d, 2, 8], &Q, &[0, 1, b'a']];
+
+/// The reply that nothing stands at `a`, to a stat.
+const NO_STAT: &[&[u8]] = &[&[0, 0, 0, 0x42, 2, 0x88], &Q, &P, &[0, 1, b'a', 0]];
+
 /// The reply that nothing stands at `a`.
 const ABSENT: &[&[u8]] = &[&[0, 0, 0, 0x42, 2, 0x83], &Q, &P, &[0, 1, b'a', 0]];
 
@@ -64,6 +70,7 @@ const CASES: &[Case] = &[
     ),
     (&[FETCH, FETCH], &[ABSENT, ABSENT], Ok(2)),
     (&[PATIENT, FETCH], &[ABSENT, ABSENT], Ok(2)),
+    (&[STAT, FETCH, STAT], &[NO_STAT, ABSENT, NO_STAT], Ok(3)),
     (
         &[FETCH, FETCH, &[&[0]]],
         &[ABSENT, ABSENT],
@@ -106,7 +113,7 @@ impl Gate for Longest {
 fn served<L: Ledger>(
     rt: &impl Wait,
     alloc: Global,
-    shared: &Behind<L>,
+    shared: &AuditedMount<L>,
     desk: &mut Desk<L>,
     gate: &Longest,
     stream: &[u8],
@@ -122,7 +129,7 @@ fn served<L: Ledger>(
 fn serve_case<L: Ledger>(
     rt: &(impl Wait + Abort),
     alloc: Global,
-    shared: &Behind<L>,
+    shared: &AuditedMount<L>,
     desk: &mut Desk<L>,
     gate: &Longest,
     case: &Case,
@@ -139,7 +146,7 @@ fn serve_case<L: Ledger>(
 fn serve_all<L: Ledger>(
     rt: &(impl Wait + Abort),
     alloc: Global,
-    shared: &Behind<L>,
+    shared: &AuditedMount<L>,
     desk: &mut Desk<L>,
 ) -> Result<(), Fail> {
     let gate = Longest {
@@ -157,7 +164,7 @@ fn serve_all<L: Ledger>(
 fn serve_one_of_two<L: Ledger>(
     rt: &(impl Wait + Abort),
     alloc: Global,
-    shared: &Behind<L>,
+    shared: &AuditedMount<L>,
 ) -> Result<Ended<L>, Fail> {
     let mut desk = Desk::new(alloc, shared.pass(rt)?);
     serve_all(rt, alloc, shared, &mut desk)?;
@@ -169,10 +176,8 @@ fn serve_one_of_two<L: Ledger>(
 fn serve_and_close<L: Ledger>(
     rt: &(impl Wait + Abort),
     alloc: Global,
-    shared: Behind<L>,
-) -> Result<(), Fail>
-    requires { L.parts ≡ 256 }
-{
+    shared: AuditedMount<L>,
+) -> Result<(), Fail> {
     let given = serve_one_of_two(rt, alloc, &shared)?;
     close(rt, alloc, shared, given)
 }

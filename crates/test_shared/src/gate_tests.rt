@@ -2,7 +2,7 @@
 
 ghost use Rattle.std.specs.Prelude.{◌≡◌};
 
-use crate::audits::{Behind, Ended, close, end_both, opened};
+use crate::audits::{AuditedMount, Ended, close, end_both, opened};
 use eden_globs::Filter;
 use eden_history::{Change, Mode, Position};
 use eden_ids::{GitNaming, Id};
@@ -109,7 +109,7 @@ struct Plan {
 /// Asks, and waits at the gate for the other caller.
 fn ask_one<L: Ledger>(
     rt: &(impl Wait + Clock),
-    shared: &Behind<L>,
+    shared: &AuditedMount<L>,
     desk: &mut Desk<L>,
     plan: &Plan,
     flags: &Flags,
@@ -126,7 +126,7 @@ fn ask_one<L: Ledger>(
 /// Makes changes once the other caller waits, and says so. Returns whether they were made.
 fn change_all<L: Ledger>(
     rt: &(impl Wait + Clock),
-    shared: &Behind<L>,
+    shared: &AuditedMount<L>,
     desk: &mut Desk<L>,
     changes: &[Change],
     flags: &Flags,
@@ -144,7 +144,7 @@ fn change_all<L: Ledger>(
 /// One caller asks, and another one makes changes meanwhile. Returns the reply, and whether the changes were made.
 fn call_both<L: Ledger + Send + Sync, R: Threads + Wait + Clock + Sync>(
     rt: &R,
-    shared: &Behind<L>,
+    shared: &AuditedMount<L>,
     first: &mut Desk<L>,
     second: &mut Desk<L>,
     plan: &Plan,
@@ -160,7 +160,7 @@ fn call_both<L: Ledger + Send + Sync, R: Threads + Wait + Clock + Sync>(
 /// Lets the second caller go over, and both do what is planned.
 fn play_both<L: Ledger + Send + Sync, R: Threads + Wait + Abort + Clock + Sync>(
     rt: &R,
-    shared: &Behind<L>,
+    shared: &AuditedMount<L>,
     first: &mut Desk<L>,
     second: &mut Desk<L>,
     commit: Id,
@@ -183,7 +183,7 @@ fn play_both<L: Ledger + Send + Sync, R: Threads + Wait + Abort + Clock + Sync>(
 fn play<L: Ledger + Send + Sync, R: Threads + Wait + Abort + Clock + Sync>(
     rt: &R,
     alloc: Global,
-    shared: &Behind<L>,
+    shared: &AuditedMount<L>,
     commit: Id,
     plan: &Plan,
 ) -> Result<Ended<L>, Fail> {
@@ -285,7 +285,7 @@ fn opened_now<L: Ledger>(
     alloc: Global,
     blank: Blank,
     objects: &mut Objects,
-) -> Result<Behind<L>, Fail>
+) -> Result<AuditedMount<L>, Fail>
     requires name { blank.name ≡ L.name }
     requires parts { blank.parts ≡ L.parts }
     requires whole { blank.parts ≡ 256 }
@@ -301,7 +301,7 @@ fn opened_now<L: Ledger>(
 fn overlap<L: Ledger + Send + Sync, R: Threads + Wait + Abort + Clock + Sync>(
     rt: &R,
     alloc: Global,
-    shared: &Behind<L>,
+    shared: &AuditedMount<L>,
     objects: &mut Objects,
     waits: Waits,
     imports: bool,
@@ -314,13 +314,11 @@ fn overlap<L: Ledger + Send + Sync, R: Threads + Wait + Abort + Clock + Sync>(
 fn overlap_and_close<L: Ledger + Send + Sync, R: Threads + Wait + Abort + Clock + Sync>(
     rt: &R,
     alloc: Global,
-    shared: Behind<L>,
+    shared: AuditedMount<L>,
     objects: &mut Objects,
     waits: Waits,
     imports: bool,
-) -> Result<(), Fail>
-    requires { L.parts ≡ 256 }
-{
+) -> Result<(), Fail> {
     let given = overlap(rt, alloc, &shared, objects, waits, imports)?;
     close(rt, alloc, shared, given)
 }

@@ -1,6 +1,4 @@
 //! Tests of a mount that threads share: with its history and without, its passes, its frames, and the head word.
-//!
-//! A crate of its own, so that no crate that ships waits for them.
 #![tactic(auto)]
 
 #[cfg(test)]
@@ -25,6 +23,8 @@ mod mounts;
 mod pass_tests;
 #[cfg(test)]
 mod patience_tests;
+#[cfg(test)]
+mod unlogged;
 #[cfg(test)]
 mod unlogged_call_tests;
 #[cfg(test)]

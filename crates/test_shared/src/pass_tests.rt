@@ -2,7 +2,7 @@
 
 ghost use Rattle.std.specs.Prelude.{◌≡◌};
 
-use crate::audits::{Behind, Ended, close, end_both, opened};
+use crate::audits::{AuditedMount, Ended, close, end_both, opened};
 use eden_ids::{GitNaming, Id};
 use eden_objects::Store;
 use eden_shared::{Audited, CallLog, CallersSpent, Desk, Pass, PassMissing};
@@ -18,7 +18,7 @@ use test_kit::write;
 fn write_each<L: Ledger>(
     rt: &impl Wait,
     alloc: Global,
-    shared: &Behind<L>,
+    shared: &AuditedMount<L>,
     first: &mut Desk<L>,
     second: &mut Desk<L>,
 ) -> Result<(u64, u64), Fail> {
@@ -33,7 +33,7 @@ fn write_each<L: Ledger>(
 fn call_each<L: Ledger>(
     rt: &(impl Wait + Abort),
     alloc: Global,
-    shared: &Behind<L>,
+    shared: &AuditedMount<L>,
 ) -> Result<(Ended<L>, Pass<L>), Fail> {
     let mut first = Desk::new(alloc, shared.pass(rt)?);
     let mut second = Desk::new(alloc, shared.pass(rt)?);
@@ -53,9 +53,7 @@ fn with_both<L: Ledger>(
     missing: PassMissing<GitNaming, Audited<GitNaming>, L>,
     kept: Pass<L>,
     logs: Vec<CallLog>,
-) -> Result<(), Fail>
-    requires { L.parts ≡ 256 }
-{
+) -> Result<(), Fail> {
     let PassMissing { shared, mut passes } = missing;
     passes.push(kept)?;
     close(rt, alloc, shared, Ended { passes, logs })
@@ -65,12 +63,10 @@ fn with_both<L: Ledger>(
 fn one_of_two<L: Ledger>(
     rt: &impl Abort,
     alloc: Global,
-    shared: Behind<L>,
+    shared: AuditedMount<L>,
     given: Ended<L>,
     kept: Pass<L>,
-) -> Result<(), Fail>
-    requires { L.parts ≡ 256 }
-{
+) -> Result<(), Fail> {
     let Ended { passes, logs } = given;
     match shared.finish(passes) {
         Ok(_) => Err(Fail::new("one pass is enough")),
@@ -98,7 +94,7 @@ fn audit_faults(rt: HostRuntime) -> Result<(), Fail> {
 fn take_all<L: Ledger>(
     rt: &(impl Wait + Abort),
     alloc: Global,
-    shared: &Behind<L>,
+    shared: &AuditedMount<L>,
 ) -> Result<Vec<Pass<L>>, Fail> {
     let mut passes = Vec::new(alloc);
     for number in 1..=255_u64 {
@@ -113,11 +109,9 @@ fn take_all<L: Ledger>(
 /// Gives the lock up, and checks that it has no calls.
 fn has_no_calls<L: Ledger>(
     rt: &impl Abort,
-    shared: Behind<L>,
+    shared: AuditedMount<L>,
     passes: Vec<Pass<L>>,
-) -> Result<(), Fail>
-    requires { L.parts ≡ 256 }
-{
+) -> Result<(), Fail> {
     let audited = shared.finish(passes)?;
     assert!(rt; audited.entries().is_empty());
     Ok(())

@@ -5,6 +5,7 @@ ghost use Rattle.eden_accumulate.specs.Mounts.{StandsFor};
 ghost use Rattle.eden_history.specs.Worlds.{WorldState};
 
 use crate::mounts::{basis, changes, files, mounted, poll_for};
+use crate::unlogged::UnloggedMount;
 use eden_accumulate::Mount;
 use eden_history::Change;
 use eden_ids::GitNaming;
@@ -20,9 +21,6 @@ use std::thread;
 use std::thread::Threads;
 use std::time::{Clock, Duration, Instant};
 use test_kit::write;
-
-/// A mount of which nothing is logged, behind a lock.
-type Behind<L> = Unlogged<GitNaming, Mount<GitNaming>, L>;
 
 /// A patience, in milliseconds, that no test sees the end of.
 const LONG: u64 = 50_000;
@@ -112,7 +110,7 @@ const CASES: &[Case] = &[
 /// Asks with patience, and returns the reply and how many milliseconds it took.
 fn ask<L: Origin, P: Peer, R: Wait + Clock>(
     rt: &R,
-    unlogged: &Behind<L>,
+    unlogged: &UnloggedMount<L>,
     request: &Request,
     patience: u64,
     peer: &P,
@@ -137,7 +135,7 @@ fn writes(alloc: Global, paths: &[&str]) -> Result<Vec<Change>, Fail> {
 /// Returns whether all changes were made.
 fn act<L: Origin, R: Wait + Clock>(
     rt: &R,
-    unlogged: &Behind<L>,
+    unlogged: &UnloggedMount<L>,
     pass: &mut Pass<L>,
     changes: &[Change],
     ends: bool,
@@ -156,7 +154,7 @@ fn act<L: Origin, R: Wait + Clock>(
 }
 
 /// Asserts that a reply is that of a case, and came when it should.
-fn judge(
+fn check_reply(
     rt: &impl Abort,
     alloc: Global,
     case: &Case,
@@ -173,7 +171,7 @@ fn judge(
 fn write_before<L: Origin, R: Wait + Abort + Clock>(
     rt: &R,
     alloc: Global,
-    unlogged: &Behind<L>,
+    unlogged: &UnloggedMount<L>,
     pass: &mut Pass<L>,
     paths: &[&str],
 ) -> Result<(), Fail> {
@@ -186,7 +184,7 @@ fn write_before<L: Origin, R: Wait + Abort + Clock>(
 fn play_at_once<L: Origin + Send + Sync, R: Threads + Wait + Abort + Clock + Sync>(
     rt: &R,
     alloc: Global,
-    unlogged: &Behind<L>,
+    unlogged: &UnloggedMount<L>,
     pass: &mut Pass<L>,
     case: Case,
     request: &Request,
@@ -198,8 +196,8 @@ fn play_at_once<L: Origin + Send + Sync, R: Threads + Wait + Abort + Clock + Syn
         || act(rt, unlogged, pass, meanwhile, case.ends),
     );
     assert!(rt; acted);
-    judge(rt, alloc, &case, told)?;
-    judge(
+    check_reply(rt, alloc, &case, told)?;
+    check_reply(
         rt,
         alloc,
         &case,
@@ -211,7 +209,7 @@ fn play_at_once<L: Origin + Send + Sync, R: Threads + Wait + Abort + Clock + Syn
 fn play<L: Origin + Send + Sync, R: Threads + Wait + Abort + Clock + Sync>(
     rt: &R,
     alloc: Global,
-    unlogged: &Behind<L>,
+    unlogged: &UnloggedMount<L>,
     pass: &mut Pass<L>,
     case: Case,
 ) -> Result<(), Fail> {
@@ -232,7 +230,7 @@ fn play<L: Origin + Send + Sync, R: Threads + Wait + Abort + Clock + Sync>(
 /// Asks with a long patience.
 fn ask_long<L: Origin, P: Peer, R: Wait + Clock>(
     rt: &R,
-    unlogged: &Behind<L>,
+    unlogged: &UnloggedMount<L>,
     request: &Request,
     peer: &P,
 ) -> Result<Reply, Fail> {
@@ -244,7 +242,7 @@ fn ask_long<L: Origin, P: Peer, R: Wait + Clock>(
 fn answers_basis<L: Origin, R: Wait + Clock>(
     rt: &R,
     alloc: Global,
-    unlogged: &Behind<L>,
+    unlogged: &UnloggedMount<L>,
 ) -> Result<bool, Fail> {
     let told = ask_long(rt, unlogged, &basis(alloc), &Present)?;
     Ok(told == files(alloc, 1, &[])?)
@@ -254,7 +252,7 @@ fn answers_basis<L: Origin, R: Wait + Clock>(
 fn refuses_ahead<L: Origin, R: Wait + Clock>(
     rt: &R,
     alloc: Global,
-    unlogged: &Behind<L>,
+    unlogged: &UnloggedMount<L>,
 ) -> Result<bool, Fail> {
     let request = poll_for(alloc, 9, "a")?;
     let told = ask_long(rt, unlogged, &request, &Present)?;
@@ -271,7 +269,7 @@ fn refuses_ahead<L: Origin, R: Wait + Clock>(
 fn answers_gone<L: Origin, R: Wait + Clock>(
     rt: &R,
     alloc: Global,
-    unlogged: &Behind<L>,
+    unlogged: &UnloggedMount<L>,
 ) -> Result<bool, Fail> {
     let request = poll_for(alloc, 1, "a")?;
     let told = ask_long(rt, unlogged, &request, &Gone)?;
@@ -283,7 +281,7 @@ fn answers_gone<L: Origin, R: Wait + Clock>(
 fn ask_others<L: Origin, R: Wait + Abort + Clock>(
     rt: &R,
     alloc: Global,
-    unlogged: &Behind<L>,
+    unlogged: &UnloggedMount<L>,
 ) -> Result<(), Fail> {
     let start = Instant::now(rt)?;
     assert!(rt; answers_basis(rt, alloc, unlogged)?);

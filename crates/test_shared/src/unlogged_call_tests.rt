@@ -5,6 +5,7 @@ ghost use Rattle.eden_accumulate.specs.Mounts.{StandsFor};
 ghost use Rattle.eden_history.specs.Worlds.{WorldState};
 
 use crate::mounts::{changes, fetch, file, mounted, poll, position};
+use crate::unlogged::{UnloggedMount, ends_at};
 use eden_accumulate::Mount;
 use eden_history::{Answer, Change};
 use eden_ids::GitNaming;
@@ -19,13 +20,10 @@ use std::sync::ledger::{Blank, Ledger};
 use std::test::Fail;
 use test_kit::write;
 
-/// A mount of which nothing is logged, behind a lock.
-type Behind<L> = Unlogged<GitNaming, Mount<GitNaming>, L>;
-
 /// Writes a file, by which the mount comes to this number.
 fn write_at<L: Origin>(
     rt: &(impl Wait + Abort),
-    unlogged: &Behind<L>,
+    unlogged: &UnloggedMount<L>,
     pass: &mut Pass<L>,
     change: &Change,
     sequence: u64,
@@ -39,7 +37,7 @@ fn write_at<L: Origin>(
 fn write_and_fetch<L: Origin>(
     rt: &(impl Wait + Abort),
     alloc: Global,
-    unlogged: &Behind<L>,
+    unlogged: &UnloggedMount<L>,
     pass: &mut Pass<L>,
 ) -> Result<(), Fail> {
     write_at(rt, unlogged, pass, &write(alloc, "a", "x")?, 2)?;
@@ -65,7 +63,7 @@ fn is_of_then(
 fn hold_and_write<L: Origin>(
     rt: &(impl Wait + Abort),
     alloc: Global,
-    unlogged: &Behind<L>,
+    unlogged: &UnloggedMount<L>,
     pass: &mut Pass<L>,
     request: &Request,
 ) -> Result<(), Fail> {
@@ -79,7 +77,7 @@ fn hold_and_write<L: Origin>(
 fn write_and_ask<L: Origin>(
     rt: &(impl Wait + Abort),
     alloc: Global,
-    unlogged: &Behind<L>,
+    unlogged: &UnloggedMount<L>,
     pass: &mut Pass<L>,
 ) -> Result<(), Fail> {
     write_and_fetch(rt, alloc, unlogged, pass)?;
@@ -94,24 +92,12 @@ fn write_and_ask<L: Origin>(
 fn call_with_pass<L: Origin>(
     rt: &(impl Wait + Abort),
     alloc: Global,
-    unlogged: &Behind<L>,
+    unlogged: &UnloggedMount<L>,
     passes: &mut Passes<L>,
 ) -> Result<Pass<L>, Fail> {
     let mut pass = passes.give()?;
     write_and_ask(rt, alloc, unlogged, &mut pass)?;
     Ok(pass)
-}
-
-/// Finishes the lock, whose server has come to this number.
-fn ends_at<L: Origin>(
-    rt: &impl Abort,
-    unlogged: Behind<L>,
-    passes: Passes<L>,
-    sequence: u64,
-) -> Result<(), Fail> {
-    let mount = unlogged.finish(passes)?;
-    assert!(rt; mount.position() == position(sequence));
-    Ok(())
 }
 
 /// Takes back the pass that was out, and finishes the lock.
@@ -131,7 +117,7 @@ fn finish_with<L: Origin>(
 /// Checks that the lock is not finished while a pass is out.
 fn finish_twice<L: Origin>(
     rt: &impl Abort,
-    unlogged: Behind<L>,
+    unlogged: UnloggedMount<L>,
     passes: Passes<L>,
     pass: Pass<L>,
 ) -> Result<(), Fail> {

@@ -5,11 +5,12 @@ ghost use Rattle.eden_accumulate.specs.Mounts.{StandsFor};
 ghost use Rattle.eden_history.specs.Worlds.{WorldState};
 
 use crate::mounts::{basis, changes, fetch, file, files, mounted, poll};
+use crate::unlogged::serve_stream;
 use eden_accumulate::Mount;
 use eden_ids::GitNaming;
 use eden_messages::{Reply, Request};
 use eden_query::{FrameFault, ServeFault, encode_reply, encode_request, serve};
-use eden_shared::{Origin, Passes, Present, Unlogged, serve_unlogged};
+use eden_shared::{Origin, Passes, Unlogged};
 use eden_stream::Counted;
 use std::alloc::Global;
 use std::marker::Brand;
@@ -159,19 +160,7 @@ fn unlogged_end<L: Origin, R: Wait + Clock>(
 {
     let (unlogged, mut passes) = Unlogged::<GitNaming, _, L>::new(mount, blank);
     write_a(rt, alloc, &unlogged, &mut passes)?;
-    let mut text = Vec::new(alloc);
-    let mut reader = Counted::new(stream);
-    let mut writer = Counted::new(&mut text);
-    let end = serve_unlogged(
-        rt,
-        alloc,
-        &mut reader,
-        &mut writer,
-        &unlogged,
-        &mut None,
-        &Present,
-    );
-    Ok((text, end))
+    Ok(serve_stream(rt, alloc, &unlogged, &mut None, stream))
 }
 
 /// Returns the same, over a mount of its own.
@@ -234,6 +223,40 @@ fn frames_are_replied_as_to_one_caller(rt: HostRuntime) -> Result<(), Fail> {
     for case in CASES {
         are_served(&rt, alloc, &talk, case)?;
     }
+    Ok(())
+}
+
+/// The id of a file that holds `x`, by `git hash-object`.
+const OF_X: [u8; 20] = [
+    0xc1, 0xb0, 0x73, 0x0e, 0x01, 0x33, 0x44, 0x7b, 0xad, 0xcf, 0xd4, 0x7f, 0xd1, 0x44, 0xe2, 0x54,
+    0x80, 0x7b, 0x06, 0xe1,
+];
+
+/// The second position of generation 7, over the empty commit.
+const SECOND: [u8; 16] = [0, 0, 0, 0, 0, 0, 0, 7, 0, 0, 0, 0, 0, 0, 0, 2];
+
+/// A stat of `a`, and its reply.
+const STAT: &[&[u8]] = &[&[0, 0, 0, 0x1d, 2, 8], &Q, &[0, 1, b'a']];
+
+const STAT_IS: &[&[u8]] = &[
+    &[0, 0, 0, 0x5b, 2, 0x88],
+    &Q,
+    &SECOND,
+    &[0; 20],
+    &[0, 1, b'a', 1, 1, 0, 0, 0, 1],
+    &OF_X,
+];
+
+#[test]
+fn a_stat_is_replied_as_to_one_caller(rt: HostRuntime) -> Result<(), Fail> {
+    let alloc = rt.alloc();
+    let (stream, wanted) = (joined(alloc, STAT)?, joined(alloc, STAT_IS)?);
+    let (text, end) = unlogged_text(&rt, alloc, stream.as_slice())?;
+    assert_eq!(rt; end, Ok(1));
+    assert_eq!(rt; text, wanted);
+    let (text, end) = single_end(alloc, stream.as_slice())?;
+    assert_eq!(rt; end, Ok(1));
+    assert_eq!(rt; text, wanted);
     Ok(())
 }
 

@@ -5,6 +5,7 @@ ghost use Rattle.eden_accumulate.specs.Mounts.{StandsFor};
 ghost use Rattle.eden_history.specs.Worlds.{WorldState};
 
 use crate::mounts::{basis, fetch, files, mounted};
+use crate::unlogged::{UnloggedMount, ends_at};
 use eden_accumulate::Mount;
 use eden_history::{Answer, Change};
 use eden_ids::GitNaming;
@@ -19,9 +20,6 @@ use std::test::Fail;
 use std::thread;
 use std::thread::Threads;
 use test_kit::write;
-
-/// A mount of which nothing is logged, behind a lock.
-type Behind<L> = Unlogged<GitNaming, Mount<GitNaming>, L>;
 
 /// How often each thread writes.
 const WRITES: u64 = 500;
@@ -71,7 +69,11 @@ fn tells(reply: &Reply, written: &Change, sequence: u64) -> bool {
 /// Writes and asks in turn, and returns the pass.
 ///
 /// `None` if a write was not made after the one before it, or a reply is of an earlier state.
-fn make_all<L: Origin>(rt: &impl Wait, unlogged: &Behind<L>, job: Job<L>) -> Option<Pass<L>> {
+fn make_all<L: Origin>(
+    rt: &impl Wait,
+    unlogged: &UnloggedMount<L>,
+    job: Job<L>,
+) -> Option<Pass<L>> {
     let Job {
         mut pass,
         writes,
@@ -95,7 +97,7 @@ fn make_all<L: Origin>(rt: &impl Wait, unlogged: &Behind<L>, job: Job<L>) -> Opt
 
 fn make_in_threads<L: Origin + Send + Sync, R: Threads + Wait + Sync>(
     rt: &R,
-    unlogged: &Behind<L>,
+    unlogged: &UnloggedMount<L>,
     jobs: Vec<Job<L>>,
 ) -> Result<Vec<Option<Pass<L>>>, AllocError> {
     Ok(thread::map_vec(rt, jobs, &|job| make_all(rt, unlogged, job))?)
@@ -116,7 +118,7 @@ fn jobs_of<L: Origin>(alloc: Global, passes: &mut Passes<L>) -> Result<Vec<Job<L
 fn make_and_take_back<L: Origin + Send + Sync, R: Threads + Wait + Sync>(
     rt: &R,
     alloc: Global,
-    unlogged: &Behind<L>,
+    unlogged: &UnloggedMount<L>,
     passes: &mut Passes<L>,
 ) -> Result<(), Fail> {
     let jobs = jobs_of(alloc, passes)?;
@@ -130,7 +132,7 @@ fn make_and_take_back<L: Origin + Send + Sync, R: Threads + Wait + Sync>(
 fn lists_all<L: Origin>(
     rt: &(impl Wait + Abort),
     alloc: Global,
-    unlogged: &Behind<L>,
+    unlogged: &UnloggedMount<L>,
 ) -> Result<(), Fail> {
     let told = unlogged.ask(rt, &basis(alloc))?;
     assert!(rt; told == files(alloc, 2_001, PATHS)?);
@@ -141,18 +143,11 @@ fn lists_all<L: Origin>(
 fn make_and_list<L: Origin + Send + Sync, R: Threads + Wait + Abort + Sync>(
     rt: &R,
     alloc: Global,
-    unlogged: &Behind<L>,
+    unlogged: &UnloggedMount<L>,
     passes: &mut Passes<L>,
 ) -> Result<(), Fail> {
     make_and_take_back(rt, alloc, unlogged, passes)?;
     lists_all(rt, alloc, unlogged)
-}
-
-/// Finishes the lock, whose server has all changes.
-fn has_all<L: Origin>(rt: &impl Abort, unlogged: Behind<L>, passes: Passes<L>) -> Result<(), Fail> {
-    let mount = unlogged.finish(passes)?;
-    assert_eq!(rt; mount.position().sequence, 2_001);
-    Ok(())
 }
 
 /// Four threads write and ask, and the lock has all their changes at the end.
@@ -169,7 +164,7 @@ fn four_threads<L: Origin + Send + Sync, R: Threads + Wait + Abort + Sync>(
 {
     let (unlogged, mut passes) = Unlogged::<GitNaming, _, L>::new(mount, blank);
     make_and_list(rt, alloc, &unlogged, &mut passes)?;
-    has_all(rt, unlogged, passes)
+    ends_at(rt, unlogged, passes, 2_001)
 }
 
 #[test]

@@ -1,5 +1,6 @@
 //! The files of a commit: listed, looked up, counted, and those below a directory.
 
+use bytes::Bytes;
 use eden_globs::Filter;
 use eden_ids::{GitNaming, Id, Kind, Path};
 use eden_objects::{CommitFault, NoCommit, Store};
@@ -197,14 +198,22 @@ fn a_file_is_looked_up(rt: HostRuntime) -> Result<(), Fail> {
     check_files(&rt, rt.alloc(), &objects)
 }
 
+/// The kind and the bytes of a file.
+fn seen(file: Option<(Kind, &Bytes)>) -> Option<(Kind, &[u8])> {
+    match file {
+        Some((kind, bytes)) => Some((kind, bytes.as_slice())),
+        None => None,
+    }
+}
+
 /// The file at a path of a commit, if the commit and the store tell the same: `None` where there is no such commit.
 fn file_of<'a>(
     store: &'a Store<GitNaming>,
     id: Id,
     path: &str,
 ) -> Option<Option<(Kind, &'a [u8])>> {
-    let file = store.commit(id)?.file(path.as_bytes());
-    if file == store.commit_files(id).file(path.as_bytes()) {
+    let file = seen(store.commit(id)?.file(path.as_bytes()));
+    if file == seen(store.commit_files(id).file(path.as_bytes())) {
         return Some(file);
     }
     None

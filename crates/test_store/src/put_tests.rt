@@ -3,36 +3,43 @@
 ghost use Rattle.std.specs.Prelude.{◌≡◌, ◌||◌, nat_eq, slice_index};
 
 use eden_ids::{GitNaming, Id, Naming};
-use eden_objects::{PutFault, Store, Word};
+use eden_objects::{ObjectType, PutFault, Store};
 use std::alloc::Global;
 use std::process::Abort;
 use std::test::Fail;
 use test_kit::{FirstByte, Objects, commit_of, push_entry, tree_of};
 
 /// Puts an object of a kind.
-fn put<N: Naming + Drop>(store: &mut Store<N>, word: Word, payload: &[u8]) -> Result<Id, PutFault> {
-    match word {
-        Word::Blob => store.put_blob(payload),
-        Word::Tree => store.put_tree(payload),
-        Word::Commit => store.put_commit(payload),
+fn put<N: Naming + Drop>(
+    store: &mut Store<N>,
+    object_type: ObjectType,
+    payload: &[u8],
+) -> Result<Id, PutFault> {
+    match object_type {
+        ObjectType::Blob => store.put_blob(payload),
+        ObjectType::Tree => store.put_tree(payload),
+        ObjectType::Commit => store.put_commit(payload),
     }
 }
 
 /// Objects that are put one after another, and their ids or why they are refused.
-const COLLIDING: &[(Word, &[u8], Result<Id, PutFault>)] = &[
-    (Word::Blob, b"ab", Ok(Id([b'a'; 20]))),
-    (Word::Blob, b"ac", Err(PutFault::IdTaken)),
-    (Word::Blob, b"", Err(PutFault::ZeroId)),
-    (Word::Blob, b"ab", Ok(Id([b'a'; 20]))),
+const COLLIDING: &[(ObjectType, &[u8], Result<Id, PutFault>)] = &[
+    (ObjectType::Blob, b"ab", Ok(Id([b'a'; 20]))),
+    (ObjectType::Blob, b"ac", Err(PutFault::IdTaken)),
+    (ObjectType::Blob, b"", Err(PutFault::ZeroId)),
+    (ObjectType::Blob, b"ab", Ok(Id([b'a'; 20]))),
     // The empty tree's id is zero too, and another kind of object is another object.
-    (Word::Tree, b"", Err(PutFault::ZeroId)),
+    (ObjectType::Tree, b"", Err(PutFault::ZeroId)),
 ];
 
 #[test]
 fn colliding_naming(rt: HostRuntime) {
     let mut store = Store::new(rt.alloc(), FirstByte);
-    for (row, (word, payload, answer)) in COLLIDING.iter().enumerate() {
-        assert!(rt; put(&mut store, *word, payload) == *answer, "row {row}");
+    for (row, (object_type, payload, answer)) in COLLIDING.iter().enumerate() {
+        assert!(rt;
+            put(&mut store, *object_type, payload) == *answer,
+            "row {row}"
+        );
     }
 }
 
@@ -41,12 +48,15 @@ fn too_large_comes_first(rt: HostRuntime) -> Result<(), Fail> {
     let alloc = rt.alloc();
     let largest = vec![in alloc; b'a'; 8_388_608]?;
     let mut store = Store::new(alloc, FirstByte);
-    assert!(rt; put(&mut store, Word::Blob, largest.as_slice()) == Ok(Id([b'a'; 20])));
+    assert!(rt; put(&mut store, ObjectType::Blob, largest.as_slice()) == Ok(Id([b'a'; 20])));
     for byte in [0, b'a'] {
         let larger = vec![in alloc; byte; 8_388_609]?;
-        for word in &[Word::Blob, Word::Tree, Word::Commit] {
-            let answer = put(&mut store, *word, larger.as_slice());
-            assert!(rt; answer == Err(PutFault::TooLarge), "{word:?} of {byte}");
+        for object_type in &[ObjectType::Blob, ObjectType::Tree, ObjectType::Commit] {
+            let answer = put(&mut store, *object_type, larger.as_slice());
+            assert!(rt;
+                answer == Err(PutFault::TooLarge),
+                "{object_type:?} of {byte}"
+            );
         }
     }
     Ok(())
@@ -93,13 +103,13 @@ const CUT: &[(&[Entry], PutFault)] = &[
 /// The first length of a front of a payload that is not refused as it is cut short, of those that are no end of an entry.
 fn first_whole(
     store: &mut Store<GitNaming>,
-    word: Word,
+    object_type: ObjectType,
     payload: &[u8],
     ends: &[usize],
 ) -> Option<usize> {
     for length in 1..payload.len() {
         if !ends.contains(&length)
-            && put(store, word, &payload[..length]) != Err(PutFault::CutShort)
+            && put(store, object_type, &payload[..length]) != Err(PutFault::CutShort)
         {
             return Some(length);
         }
@@ -111,16 +121,21 @@ fn first_whole(
 fn check_cut_trees(rt: &impl Abort, alloc: Global, objects: &mut Objects) -> Result<(), Fail> {
     let whole = entries_of(alloc, objects, WHOLE)?;
     assert!(rt; whole.len() == 92);
-    assert!(rt; put(&mut objects.store, Word::Tree, whole.as_slice()).is_ok());
-    let wrong = first_whole(&mut objects.store, Word::Tree, whole.as_slice(), &[31, 64]);
+    assert!(rt; put(&mut objects.store, ObjectType::Tree, whole.as_slice()).is_ok());
+    let wrong = first_whole(
+        &mut objects.store,
+        ObjectType::Tree,
+        whole.as_slice(),
+        &[31, 64],
+    );
     assert!(rt; wrong.is_none(), "at {wrong:?}");
     for (entries, fault) in CUT {
         let payload = entries_of(alloc, objects, entries)?;
         let cut = &payload[..payload.len().saturating_sub(1)];
-        let answer = put(&mut objects.store, Word::Tree, cut);
+        let answer = put(&mut objects.store, ObjectType::Tree, cut);
         assert!(rt; answer == Err(*fault), "{entries:?}");
     }
-    let mode = put(&mut objects.store, Word::Tree, b"160000 a".as_slice());
+    let mode = put(&mut objects.store, ObjectType::Tree, b"160000 a".as_slice());
     assert!(rt; mode == Err(PutFault::BadMode));
     Ok(())
 }
@@ -162,11 +177,11 @@ fn commits_cut_short(rt: HostRuntime) -> Result<(), Fail> {
     let whole = whole_commit(rt.alloc(), &objects)?;
     let store = &mut objects.store;
     let (line, whole) = (&whole[..46.min(whole.len())], whole.as_slice());
-    assert!(rt; put(store, Word::Commit, b"".as_slice()) == Err(PutFault::CutShort));
-    let wrong = first_whole(store, Word::Commit, line, &[]);
+    assert!(rt; put(store, ObjectType::Commit, b"".as_slice()) == Err(PutFault::CutShort));
+    let wrong = first_whole(store, ObjectType::Commit, line, &[]);
     assert!(rt; wrong.is_none(), "at {wrong:?}");
     for payload in [line, whole] {
-        assert!(rt; put(store, Word::Commit, payload).is_ok());
+        assert!(rt; put(store, ObjectType::Commit, payload).is_ok());
     }
     Ok(())
 }
@@ -176,12 +191,12 @@ fn check_commits(rt: &impl Abort, alloc: Global, objects: &mut Objects) -> Resul
     let whole = whole_commit(alloc, objects)?;
     for (place, byte) in BYTES {
         let payload = with_byte(whole.as_slice(), alloc, *place, *byte)?;
-        let answer = put(&mut objects.store, Word::Commit, payload.as_slice());
+        let answer = put(&mut objects.store, ObjectType::Commit, payload.as_slice());
         assert!(rt; answer == Err(PutFault::BadCommit), "at {place}");
     }
     for (name, fault) in NAMED {
         let payload = commit_of(alloc, objects.id(name), "")?;
-        let answer = put(&mut objects.store, Word::Commit, payload.as_slice());
+        let answer = put(&mut objects.store, ObjectType::Commit, payload.as_slice());
         assert!(rt; answer == Err(*fault), "{name}");
     }
     Ok(())
@@ -208,17 +223,17 @@ impl Naming for Marked {
     ghost use Rattle.std.specs.Prelude.{◌||◌, if◌then◌else◌, replicate, nat_eq, slice_index};
     ghost use Rattle.eden_ids.specs.Naming.{git_name};
 
-    ghost id = { λ word payload. if nat_eq (slice_index payload 6) 90 || nat_eq (slice_index payload 46) 90 then record { 0 = replicate 20 0 }
+    ghost id = { λ object_type payload. if nat_eq (slice_index payload 6) 90 || nat_eq (slice_index payload 46) 90 then record { 0 = replicate 20 0 }
         else if nat_eq (slice_index payload 6) 89 || nat_eq (slice_index payload 46) 89 then record { 0 = replicate 20 89 }
-        else git_name word payload };
+        else git_name object_type payload };
 
-    fn id_of(&self, word: &[u8], payload: &[u8]) -> Id {
+    fn id_of(&self, object_type: &[u8], payload: &[u8]) -> Id {
         if is_marked(payload, b'Z') {
             Id([0; 20])
         } else if is_marked(payload, b'Y') {
             Id([b'Y'; 20])
         } else {
-            GitNaming.id_of(word, payload)
+            GitNaming.id_of(object_type, payload)
         }
     }
 }
@@ -232,10 +247,10 @@ fn only(alloc: Global, mode: &str, name: &[u8], id: Id) -> Result<Vec<u8>, Fail>
 
 /// Puts a blob, a tree of it, and the blob whose id has twenty bytes `Y`. Returns the ids of the first two.
 fn put_marked(alloc: Global, store: &mut Store<Marked>) -> Result<(Id, Id), Fail> {
-    let blob = put(store, Word::Blob, b"x".as_slice())?;
+    let blob = put(store, ObjectType::Blob, b"x".as_slice())?;
     let payload = only(alloc, "100644", b"x".as_slice(), blob)?;
-    let tree = put(store, Word::Tree, payload.as_slice())?;
-    let taken = put(store, Word::Blob, b"blob: Y".as_slice())?;
+    let tree = put(store, ObjectType::Tree, payload.as_slice())?;
+    let taken = put(store, ObjectType::Blob, b"blob: Y".as_slice())?;
     if taken == Id([b'Y'; 20]) {
         return Ok((blob, tree));
     }
@@ -250,7 +265,7 @@ fn put_above(
     child: Id,
 ) -> Result<Result<Id, PutFault>, Fail> {
     let payload = only(alloc, "40000", name, child)?;
-    Ok(put(store, Word::Tree, payload.as_slice()))
+    Ok(put(store, ObjectType::Tree, payload.as_slice()))
 }
 
 /// Puts trees, each of which has the one before as its only entry, with this name.
@@ -302,7 +317,7 @@ fn check_deep(
     // A fault of an entry comes before the depth.
     let entries = [("40000", "d", deepest), ("100644", "e", Id([1; 20]))];
     let payload = tree_of(alloc, &entries)?;
-    let answer = put(store, Word::Tree, payload.as_slice());
+    let answer = put(store, ObjectType::Tree, payload.as_slice());
     assert!(rt; answer == Err(PutFault::MissingChild));
     Ok(())
 }
@@ -327,7 +342,7 @@ fn put_long(alloc: Global, store: &mut Store<Marked>, length: usize) -> Result<I
     let (blob, _) = put_marked(alloc, store)?;
     let name = vec![in alloc; b'f'; length]?;
     let payload = only(alloc, "100644", name.as_slice(), blob)?;
-    let file = put(store, Word::Tree, payload.as_slice())?;
+    let file = put(store, ObjectType::Tree, payload.as_slice())?;
     nested(alloc, store, file, 3, &[b'd'; 255])
 }
 
@@ -364,7 +379,7 @@ fn fault_above(
     child: Id,
 ) -> Result<Option<PutFault>, Fail> {
     let payload = commit_of(alloc, child, mark)?;
-    let commit = put(store, Word::Commit, payload.as_slice()).err();
+    let commit = put(store, ObjectType::Commit, payload.as_slice()).err();
     let tree = fault_of(alloc, store, mark.as_bytes(), child)?;
     Ok(if commit == tree { tree } else { None })
 }
@@ -383,7 +398,7 @@ fn check_order(rt: &impl Abort, alloc: Global, store: &mut Store<Marked>) -> Res
         }
         for (times, fault) in [(1, PutFault::CutShort), (46, PutFault::BadCommit)] {
             let payload = mark.repeat(alloc, times)?;
-            let answer = put(store, Word::Commit, payload.as_bytes());
+            let answer = put(store, ObjectType::Commit, payload.as_bytes());
             assert!(rt; answer == Err(fault), "{mark}");
         }
     }

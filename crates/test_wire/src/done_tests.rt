@@ -4,11 +4,10 @@ use crate::messages::{EMPTY, position};
 use eden_history::{Answer, ChangeFault};
 use eden_ids::{Path, Sequence};
 use eden_messages::Query;
-use eden_objects::PutFault;
 use eden_wire::{DecodeFault, Done, append_done, decode_done};
 use std::alloc::Global;
 use std::test::Fail;
-use test_kit::{PLACE_BYTES as P, QUERY_BYTES as Q, framed, joined, path};
+use test_kit::{PLACE_BYTES as P, PUT_FAULTS, QUERY_BYTES as Q, framed, joined, path};
 
 /// The query of `QUERY_BYTES`.
 const QUERY: Query = Query {
@@ -121,24 +120,6 @@ const PLAIN: &[(ChangeFault, u8)] = &[
     (ChangeFault::NoMemory, 11),
 ];
 
-/// The faults of objects, in the order of their numbers from 1 on.
-const PUTS: &[PutFault] = &[
-    PutFault::TooLarge,
-    PutFault::IdTaken,
-    PutFault::ZeroId,
-    PutFault::BadMode,
-    PutFault::BadName,
-    PutFault::OutOfOrder,
-    PutFault::Duplicate,
-    PutFault::MissingChild,
-    PutFault::WrongChildKind,
-    PutFault::TooDeep,
-    PutFault::PathTooLong,
-    PutFault::CutShort,
-    PutFault::BadCommit,
-    PutFault::NoMemory,
-];
-
 #[test]
 fn refusals_have_their_bytes(rt: HostRuntime) -> Result<(), Fail> {
     let alloc = rt.alloc();
@@ -147,7 +128,7 @@ fn refusals_have_their_bytes(rt: HostRuntime) -> Result<(), Fail> {
         assert!(rt; is_answered_by(alloc, Answer::Refused(*fault), fields)?);
     }
     let mut number: u8 = 0;
-    for fault in PUTS {
+    for fault in PUT_FAULTS {
         number = number.wrapping_add(1);
         let fields: &[&[u8]] = &[&[3, 10, 0, 0, 0, 0, 0, 0, 1, 2, number]];
         let (place, fault) = (0x0102, *fault);

@@ -3,7 +3,7 @@
 use crate::messages::{Asked, EMPTY, frame_of_request, read_reply, read_request, request_of};
 use eden_globs::Filter;
 use eden_messages::Request;
-use eden_wire::{DecodeFault, append_asked, decode_asked};
+use eden_wire::{DecodeFault, Question, append_asked, decode_asked};
 use std::alloc::Global;
 use std::test::Fail;
 use test_kit::{PLACE_BYTES as P, QUERY_BYTES as Q, framed, joined};
@@ -94,7 +94,7 @@ fn a_patient_poll_that_excludes_has_its_frame(rt: HostRuntime) -> Result<(), Fai
     let alloc = rt.alloc();
     let asked = eden_wire::Asked {
         patience: 10_000,
-        request: excluding(alloc, Asked::Poll(1, EMPTY), &[], &[b".git/**"])?,
+        question: Question::Whole(excluding(alloc, Asked::Poll(1, EMPTY), &[], &[b".git/**"])?),
     };
     let parts: &[&[u8]] = &[&[0, 0, 0, 0x51], TEN_SECONDS, NO_GIT, &[2, 2], &Q, &P, &[0]];
     let frame = joined(alloc, parts)?;

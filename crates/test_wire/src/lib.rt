@@ -1,4 +1,4 @@
-//! Tests of messages as bytes: each request, each reply, each change and its answer as the format spells it, bodies that spell none, each change of one byte of a body,
+//! Tests of messages as bytes: each request, each reply, each Stat and each change with its answer as the format spells it, bodies that spell none, each change of one byte of a body,
 //! and bodies that are drawn by lot, all of them read as a plain reader reads them.
 //!
 //! The messages and the plain reader are shared with the tests of what serves messages.
@@ -8,12 +8,12 @@ pub use crate::messages::{
     Asked, EMPTY, Told, frame_of_reply, frame_of_request, position, read_reply, read_request,
     reply_of, request_of,
 };
-pub use crate::plain::{REPLY_TAGS, REQUEST_TAGS, plain_fault};
+pub use crate::plain::{QUESTION_TAGS, REPLY_TAGS, REQUEST_TAGS, plain_fault};
 
 #[cfg(test)]
-mod asking_tests;
+mod asked_tests;
 #[cfg(test)]
-mod doing_tests;
+mod command_tests;
 #[cfg(test)]
 mod done_tests;
 #[cfg(test)]
@@ -24,3 +24,5 @@ mod messages;
 mod plain;
 #[cfg(test)]
 mod reading_tests;
+#[cfg(test)]
+mod stat_tests;

@@ -6,7 +6,7 @@ use crate::messages::{
 };
 use eden_history::{Change, Mark};
 use eden_ids::Kind;
-use eden_logs::{Answer, Call};
+use eden_logs::{Call, CallAnswer};
 use eden_messages::{Cause, Reply, Request};
 use eden_wire::DecodeFault;
 use std::alloc::Global;
@@ -385,7 +385,7 @@ fn copies_say_the_same(rt: HostRuntime) -> Result<(), Fail> {
     } else {
         assert!(rt; false, "another call");
     }
-    let answer = Answer::At(position(2, EMPTY));
+    let answer = CallAnswer::At(position(2, EMPTY));
     assert!(rt; answer.copy()? == answer);
     Ok(())
 }

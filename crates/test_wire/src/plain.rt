@@ -220,6 +220,9 @@ fn is_pattern(bytes: &[u8]) -> bool {
 /// The tags of requests, and of what is excluded before one.
 pub const REQUEST_TAGS: [u64; 5] = [1, 2, 3, 4, 7];
 
+/// Those of questions: a Stat has the fields of a fetch.
+pub const QUESTION_TAGS: [u64; 6] = [1, 2, 3, 4, 7, 8];
+
 /// The tags of replies.
 pub const REPLY_TAGS: [u64; 5] = [0x81, 0x82, 0x83, 0x84, 0x85];
 

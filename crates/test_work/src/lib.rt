@@ -1,6 +1,4 @@
 //! Tests of working copies, of checkouts and of ranges of a journal, over stores that are put by hand.
-//!
-//! A crate of its own, so that no crate that ships waits for them.
 #![tactic(auto)]
 
 #[cfg(test)]
@@ -8,11 +6,11 @@ mod checkout_tests;
 #[cfg(test)]
 mod mounted;
 #[cfg(test)]
-mod moved_tests;
-#[cfg(test)]
 mod overlay_tests;
 #[cfg(test)]
 mod range_tests;
+#[cfg(test)]
+mod rename_tests;
 #[cfg(test)]
 mod renamed_tests;
 #[cfg(test)]

@@ -3,6 +3,7 @@
 ghost use Rattle.std.proofs.Props.{props};
 ghost use Rattle.eden_workcopy.specs.Meanings.{FitsIn};
 
+use bytes::Bytes;
 use eden_checkout::plan;
 use eden_globs::Filter;
 use eden_history::{ChangeFault, Mode};
@@ -34,8 +35,16 @@ pub(crate) fn words(text: &str) -> (&str, &str, &str) {
     (first, second, words.next().unwrap_or(""))
 }
 
+/// Returns the kind and the bytes of a file.
+pub(crate) fn seen(file: Option<(Kind, &Bytes)>) -> Option<(Kind, &[u8])> {
+    match file {
+        Some((kind, bytes)) => Some((kind, bytes.as_slice())),
+        None => None,
+    }
+}
+
 /// Adds a path, a sign for the kind of the file there, what it holds and a space; or nothing where there is no file.
-pub(crate) fn tell(
+pub(crate) fn push_file(
     path: &[u8],
     file: Option<(Kind, &[u8])>,
     text: &mut Vec<u8>,
@@ -141,7 +150,7 @@ impl Mounted {
         let mut text = Vec::new(alloc);
         for path in paths {
             let path = path.as_bytes();
-            tell(path, self.work.file(&self.store, path), &mut text)?;
+            push_file(path, seen(self.work.file(&self.store, path)), &mut text)?;
         }
         Ok(text)
     }
@@ -151,7 +160,7 @@ impl Mounted {
         let mut text = Vec::new(alloc);
         for path in &self.work.list(&self.store, &Filter::all(alloc))? {
             let file = self.work.read(&self.store, path).ok();
-            tell(path.as_bytes(), file, &mut text)?;
+            push_file(path.as_bytes(), file, &mut text)?;
         }
         Ok(text)
     }

@@ -45,7 +45,7 @@ impl Beside {
     }
 
     /// Writes all paths, each N after the one before, and past the end those from the first on.
-    fn tell(&mut self, alloc: Global, step: usize) -> Result<(), Fail> {
+    fn write_each(&mut self, alloc: Global, step: usize) -> Result<(), Fail> {
         for turn in 0..PATHS {
             let path = numbered(alloc, turn.wrapping_mul(step) % PATHS)?;
             self.work
@@ -84,7 +84,7 @@ impl Beside {
 
     /// Returns whether both stay alike when all paths are written and a thousand of them forgotten, and a copy from before has those.
     fn stays_alike(&mut self, alloc: Global, step: usize) -> Result<bool, Fail> {
-        self.tell(alloc, step)?;
+        self.write_each(alloc, step)?;
         if !self.is_alike()? {
             return Ok(false);
         }

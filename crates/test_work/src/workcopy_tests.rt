@@ -1,5 +1,6 @@
 //! Changes of a working copy, what is answered to them, and which paths it lists then.
 
+use crate::mounted::seen;
 use crate::steps::{Step, first_wrong_over};
 use eden_history::ChangeFault;
 use eden_ids::{Content, GitNaming, Id, Kind};
@@ -279,7 +280,7 @@ fn holds_what_is_set(
     set(alloc, work, "a", Some(link))?;
     let held = Some((Kind::Link, b"1".as_slice()));
     Ok(
-        work.file(store, b"a".as_slice()) == held
+        seen(work.file(store, b"a".as_slice())) == held
             && work.file(store, b"b".as_slice()).is_none()
             && touched_signs(alloc, work)?.as_slice() == b"a+b-".as_slice(),
     )

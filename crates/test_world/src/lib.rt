@@ -1,7 +1,5 @@
 //! Tests of the plain, slow program: the table of scripts that were worked out by hand is played over it. And of what it is made of: file
 //! maps, and messages with their lengths.
-//!
-//! A crate of its own, so that no other waits for them.
 #![tactic(auto)]
 
 #[cfg(test)]

@@ -1,7 +1,7 @@
 //! What is asked with patience: a request, alone or after its milliseconds, and its body.
 
 use crate::messages::{Asked, EMPTY, request_of};
-use eden_wire::{DecodeFault, append_asked, decode_asked};
+use eden_wire::{DecodeFault, Question, append_asked, decode_asked};
 use std::alloc::Global;
 use std::test::Fail;
 use test_kit::{PLACE_BYTES as P, QUERY_BYTES as Q, REQUEST_BODIES, framed, joined};
@@ -39,8 +39,8 @@ const ALONE: &[Asked] = &[
 
 /// What is asked of all paths, for so many milliseconds.
 fn asked_of(alloc: Global, asked: Asked, patience: u32) -> Result<eden_wire::Asked, Fail> {
-    let request = request_of(alloc, 1, asked)?;
-    Ok(eden_wire::Asked { patience, request })
+    let question = Question::Whole(request_of(alloc, 1, asked)?);
+    Ok(eden_wire::Asked { patience, question })
 }
 
 /// Whether a body in parts is read as this.

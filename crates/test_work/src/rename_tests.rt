@@ -1,9 +1,9 @@
 //! Renames of directories over a commit, and where its files are seen then.
 
-use crate::mounted::tell;
+use crate::mounted::{push_file, seen};
 use eden_ids::Path;
-use eden_moves::{Moved, Moves};
 use eden_overlay::{CarryFault, carried_path};
+use eden_renames::{Renamed, Renames};
 use std::alloc::Global;
 use std::test::Fail;
 use test_kit::{Objects, filter_of, path, spaced};
@@ -123,32 +123,32 @@ fn deep(alloc: Global, text: &[u8]) -> Result<Vec<u8>, Fail> {
 
 /// The objects of that commit, and directories of it that are renamed.
 #[derive(Drop)]
-struct Renamed {
+struct RenamedObjects {
     objects: Objects,
-    moves: Moves,
+    renames: Renames,
 }
 
-impl Renamed {
-    fn new(alloc: Global) -> Result<Renamed, Fail> {
+impl RenamedObjects {
+    fn new(alloc: Global) -> Result<RenamedObjects, Fail> {
         let objects = Objects::of(alloc, COMMIT)?;
-        let moves = Moves::new(alloc);
-        Ok(Renamed { objects, moves })
+        let renames = Renames::new(alloc);
+        Ok(RenamedObjects { objects, renames })
     }
 
     /// Renames a directory. Returns why it is not renamed.
     fn rename(&mut self, alloc: Global, old: &str, new: &str) -> Result<Option<CarryFault>, Fail> {
         let (old, new) = (path(alloc, old)?, path(alloc, new)?);
-        Ok(self.moves.rename(&old, &new).err())
+        Ok(self.renames.rename(&old, &new).err())
     }
 
     /// Returns the files that are seen at the places.
     fn seen(&self, alloc: Global) -> Result<Vec<u8>, Fail> {
         let commit = self.objects.store.commit_files(self.objects.id("c"));
-        let moved = Moved::of(commit, &self.moves);
+        let renamed = Renamed::of(commit, &self.renames);
         let mut text = Vec::new(alloc);
         for place in PLACES {
             let place = place.as_bytes();
-            tell(place, moved.file(place), &mut text)?;
+            push_file(place, seen(renamed.file(place)), &mut text)?;
         }
         Ok(text)
     }
@@ -156,17 +156,17 @@ impl Renamed {
     /// Returns the listed files that a pattern admits: all of them, or those below a directory.
     fn listed(&self, alloc: Global, top: &str, pattern: &str) -> Result<Vec<u8>, Fail> {
         let commit = self.objects.store.commit_files(self.objects.id("c"));
-        let moved = Moved::of(commit, &self.moves);
+        let renamed = Renamed::of(commit, &self.renames);
         let filter = filter_of(alloc, pattern)?;
         let list = if top.is_empty() {
-            moved.list(alloc, &filter)?
+            renamed.list(alloc, &filter)?
         } else {
-            moved.list_below(alloc, &path(alloc, top)?, &filter)?
+            renamed.list_below(alloc, &path(alloc, top)?, &filter)?
         };
         let mut text = Vec::new(alloc);
         for place in &list {
             let place = place.as_bytes();
-            tell(place, moved.file(place), &mut text)?;
+            push_file(place, seen(renamed.file(place)), &mut text)?;
         }
         Ok(text)
     }
@@ -186,7 +186,7 @@ impl Renamed {
 }
 
 /// Returns the files of the first step whose rename is not answered, or does not leave them, as it says.
-fn first_wrong(alloc: Global, renamed: &mut Renamed) -> Result<Option<&'static str>, Fail> {
+fn first_wrong(alloc: Global, renamed: &mut RenamedObjects) -> Result<Option<&'static str>, Fail> {
     if !renamed.shows(alloc, UNMOVED)? {
         return Ok(Some(UNMOVED));
     }
@@ -194,7 +194,7 @@ fn first_wrong(alloc: Global, renamed: &mut Renamed) -> Result<Option<&'static s
         let answered = renamed.rename(alloc, old, new)?;
         let id = renamed.objects.id("c");
         let commit = renamed.objects.store.commit_files(id);
-        let paths = spaced(alloc, &renamed.moves.unsettled(&commit)?)?;
+        let paths = spaced(alloc, &renamed.renames.unsettled(&commit)?)?;
         let alike = answered == *answer && paths.as_slice() == unsettled.as_bytes();
         if !alike || !renamed.shows(alloc, files)? {
             return Ok(Some(*files));
@@ -205,7 +205,7 @@ fn first_wrong(alloc: Global, renamed: &mut Renamed) -> Result<Option<&'static s
 
 #[test]
 fn a_commit_is_seen_through_renamed_directories(rt: HostRuntime) -> Result<(), Fail> {
-    let mut renamed = Renamed::new(rt.alloc())?;
+    let mut renamed = RenamedObjects::new(rt.alloc())?;
     assert_eq!(rt; first_wrong(rt.alloc(), &mut renamed)?, None);
     Ok(())
 }
@@ -251,7 +251,10 @@ const BELOW: &[(&str, &str, &[Below])] = &[
 ];
 
 /// Returns the first directory, after each rename of the table, below which other files are listed.
-fn first_other_below(alloc: Global, renamed: &mut Renamed) -> Result<Option<&'static str>, Fail> {
+fn first_other_below(
+    alloc: Global,
+    renamed: &mut RenamedObjects,
+) -> Result<Option<&'static str>, Fail> {
     for (old, new, cases) in BELOW {
         if renamed.rename(alloc, old, new)?.is_some() {
             return Ok(Some(*old));
@@ -267,13 +270,13 @@ fn first_other_below(alloc: Global, renamed: &mut Renamed) -> Result<Option<&'st
 
 #[test]
 fn files_below_a_renamed_directory(rt: HostRuntime) -> Result<(), Fail> {
-    let mut renamed = Renamed::new(rt.alloc())?;
+    let mut renamed = RenamedObjects::new(rt.alloc())?;
     assert_eq!(rt; first_other_below(rt.alloc(), &mut renamed)?, None);
     Ok(())
 }
 
 /// Returns whether `d`, renamed to a path of 63 names, is listed there without what is at no path.
-fn lists_only_paths(alloc: Global, renamed: &mut Renamed) -> Result<bool, Fail> {
+fn lists_only_paths(alloc: Global, renamed: &mut RenamedObjects) -> Result<bool, Fail> {
     let above = DEEP.strip_suffix("/4").unwrap_or("");
     if renamed.rename(alloc, "d", above)?.is_some() {
         return Ok(false);
@@ -289,15 +292,15 @@ fn lists_only_paths(alloc: Global, renamed: &mut Renamed) -> Result<bool, Fail> 
 // Below a path of 63 names `x` stands at a path, and `e/y` at none: it is not listed.
 #[test]
 fn what_is_no_path_is_not_listed(rt: HostRuntime) -> Result<(), Fail> {
-    let mut renamed = Renamed::new(rt.alloc())?;
+    let mut renamed = RenamedObjects::new(rt.alloc())?;
     assert!(rt; lists_only_paths(rt.alloc(), &mut renamed)?);
     Ok(())
 }
 
 /// The directories of which something is said, each with the commit's directory that is seen there, if one is.
-fn said(alloc: Global, moves: &Moves) -> Result<Vec<u8>, Fail> {
+fn said(alloc: Global, renames: &Renames) -> Result<Vec<u8>, Fail> {
     let mut text = Vec::new(alloc);
-    for (dir, source) in moves.entries() {
+    for (dir, source) in renames.entries() {
         text.extend_from_slice(dir.as_bytes())?;
         text.push(b'=')?;
         if let Some(source) = source {
@@ -322,9 +325,9 @@ const SOURCES: &[(&str, Option<&str>)] = &[
 ];
 
 /// The first directory at which another one is seen.
-fn first_other_source(alloc: Global, moves: &Moves) -> Result<Option<&'static str>, Fail> {
+fn first_other_source(alloc: Global, renames: &Renames) -> Result<Option<&'static str>, Fail> {
     for (dir, wanted) in SOURCES {
-        let source = moves.source_dir(&path(alloc, dir)?)?;
+        let source = renames.source_dir(&path(alloc, dir)?)?;
         let alike = match (&source, wanted) {
             (Some(source), Some(wanted)) => source.as_bytes() == wanted.as_bytes(),
             (None, None) => true,
@@ -338,36 +341,38 @@ fn first_other_source(alloc: Global, moves: &Moves) -> Result<Option<&'static st
 }
 
 /// Returns whether a rename that is begun is undone and done, after `d` was renamed to `b`.
-fn is_undone_and_done(alloc: Global, moves: &mut Moves) -> Result<bool, Fail> {
-    moves.rename(&path(alloc, "d")?, &path(alloc, "b")?)?;
+fn is_undone_and_done(alloc: Global, renames: &mut Renames) -> Result<bool, Fail> {
+    renames.rename(&path(alloc, "d")?, &path(alloc, "b")?)?;
     let (old, new) = (path(alloc, "b/e")?, path(alloc, "f")?);
-    let begun = moves.begin_rename(&old, &new)?;
-    let is_taken = moves.is_empty();
-    *moves = begun.undone();
-    if !is_taken || said(alloc, moves)?.as_slice() != b"b=d d= ".as_slice() {
+    let begun = renames.begin_rename(&old, &new)?;
+    let is_taken = renames.is_empty();
+    *renames = begun.undone();
+    if !is_taken || said(alloc, renames)?.as_slice() != b"b=d d= ".as_slice() {
         return Ok(false);
     }
-    *moves = moves.begin_rename(&old, &new)?.done();
-    Ok(said(alloc, moves)?.as_slice() == b"b=d b/e= d= f=d/e ".as_slice())
+    *renames = renames.begin_rename(&old, &new)?.done();
+    Ok(said(alloc, renames)?.as_slice() == b"b=d b/e= d= f=d/e ".as_slice())
 }
 
 /// Returns whether directories are seen after that, a rename is refused, and a copy says the same.
-fn is_copied(alloc: Global, moves: &mut Moves) -> Result<bool, Fail> {
-    if first_other_source(alloc, moves)?.is_some() {
+fn is_copied(alloc: Global, renames: &mut Renames) -> Result<bool, Fail> {
+    if first_other_source(alloc, renames)?.is_some() {
         return Ok(false);
     }
-    let refused = moves.begin_rename(&path(alloc, "b")?, &path(alloc, DEEP)?);
+    let refused = renames.begin_rename(&path(alloc, "b")?, &path(alloc, DEEP)?);
     if refused.err() != Some(CarryFault::PathTooLong) {
         return Ok(false);
     }
-    let copy = moves.copy()?;
+    let copy = renames.copy()?;
     Ok(said(alloc, &copy)?.as_slice() == b"b=d b/e= d= f=d/e ".as_slice())
 }
 
 #[test]
 fn a_begun_rename_is_done_or_undone(rt: HostRuntime) -> Result<(), Fail> {
-    let mut moves = Moves::new(rt.alloc());
-    assert!(rt; is_undone_and_done(rt.alloc(), &mut moves)? && is_copied(rt.alloc(), &mut moves)?);
+    let mut renames = Renames::new(rt.alloc());
+    assert!(rt;
+        is_undone_and_done(rt.alloc(), &mut renames)? && is_copied(rt.alloc(), &mut renames)?
+    );
     Ok(())
 }
 

@@ -1,10 +1,11 @@
 //! Changes that are asked for: each kind by its bytes, bodies that ask for none, and what is too large.
 
 use crate::messages::EMPTY;
+use bytes::Bytes;
 use eden_history::{Change, Mode};
 use eden_ids::{Id, Kind, Sequence};
 use eden_messages::Query;
-use eden_objects::{Object, Word};
+use eden_objects::{Object, ObjectType};
 use eden_wire::{
     Command, DecodeFault, Doing, EncodeFault, decode_asked, decode_command, decode_request,
     encode_do,
@@ -31,9 +32,16 @@ const QUERY: Query = Query {
 /// Returns a blob, a tree and a commit: these payloads are no tree's and no commit's, which a body may hold.
 fn objects(alloc: Global) -> Result<Sequence<Object>, Fail> {
     let mut list = Vec::new(alloc);
-    for (word, text) in [(Word::Blob, "hi"), (Word::Tree, ""), (Word::Commit, "t")] {
+    for (object_type, text) in [
+        (ObjectType::Blob, "hi"),
+        (ObjectType::Tree, ""),
+        (ObjectType::Commit, "t"),
+    ] {
         let payload = Sequence::from_vec(text.as_bytes().to_vec(alloc)?);
-        list.push(Object { word, payload })?;
+        list.push(Object {
+            object_type,
+            payload,
+        })?;
     }
     Ok(Sequence::from_vec(list))
 }
@@ -43,7 +51,7 @@ fn write_of(alloc: Global, kind: Kind) -> Result<Change, Fail> {
     Ok(Change::Write {
         path: path(alloc, "a")?,
         kind,
-        bytes: Sequence::from_vec(b"hi".as_slice().to_vec(alloc)?),
+        bytes: Bytes::copy_from_slice(alloc, b"hi".as_slice())?,
     })
 }
 
@@ -175,7 +183,7 @@ const NO_COMMANDS: &[(&[&[u8]], DecodeFault)] = &[
     (&[], DecodeFault::CutShort),
     (&[&[1, 6]], DecodeFault::Version),
     (&[&[2]], DecodeFault::CutShort),
-    (&[&[2, 8], &Q, &[6]], DecodeFault::BadTag),
+    (&[&[2, 9], &Q, &[6]], DecodeFault::BadTag),
     (&[&[2, 6], &[0; 23]], DecodeFault::CutShort),
     // An answer, and a change after a patience, after exclusions and after another one.
     (&[&[2, 0x86], &Q, &[0]], DecodeFault::BadTag),
@@ -247,8 +255,11 @@ fn import_of(alloc: Global, count: usize, bytes: usize) -> Result<Change, Fail> 
     let mut list = Vec::new(alloc);
     for _ in 0..count {
         let payload = Sequence::from_vec(vec![in alloc; 0; bytes]?);
-        let word = Word::Blob;
-        list.push(Object { word, payload })?;
+        let object_type = ObjectType::Blob;
+        list.push(Object {
+            object_type,
+            payload,
+        })?;
     }
     let objects = Sequence::from_vec(list);
     Ok(Change::Import { objects })
