@@ -11,6 +11,7 @@ from railburnet.frames import (
     ChangesAre,
     ContentIs,
     File,
+    FileStat,
     FrameFault,
     Kind,
     ListIs,
@@ -18,6 +19,7 @@ from railburnet.frames import (
     Position,
     Query,
     Refused,
+    StatIs,
     lies_below,
     path_fault,
 )
@@ -78,7 +80,7 @@ class Fields:
     def one_of(self, values: Callable[[int], int]) -> int:
         try:
             return values(self.number(1))
-        except ValueError:
+        except (IndexError, ValueError):
             raise FrameFault("BadField") from None
 
     def file(self) -> Optional[File]:
@@ -92,6 +94,11 @@ class Fields:
             raise FrameFault("BadField")
         return File(Kind(kind), self.take(length))
 
+    def stat(self) -> Optional[FileStat]:
+        if not self.one_of((False, True).__getitem__):
+            return None
+        return FileStat(self.one_of(Kind), self.number(4), self.take(20))
+
     def refused(self, query: Query) -> Refused:
         cause = Cause(self.one_of(Cause))
         value = self.number(8)
@@ -103,7 +110,7 @@ class Fields:
         if self.number(1) != VERSION:
             raise FrameFault("Version")
         tag = self.number(1)
-        if not 0x81 <= tag <= 0x85:
+        if not 0x81 <= tag <= 0x85 and tag != 0x88:
             raise FrameFault("BadTag")
         query = Query(self.number(8), self.number(8), self.number(8))
         if tag == 0x84:
@@ -117,6 +124,8 @@ class Fields:
         path = self.path()
         if tag == 0x83:
             return ContentIs(query, position, path, self.file())
+        if tag == 0x88:
+            return StatIs(query, position, path, self.stat())
         return ListIs(query, position, path, self.paths_below(path))
 
 

@@ -452,6 +452,24 @@ class Questions(Mounts):
             self.assertIn("no contents to copy", said)
         self.assertFalse(os.path.exists(self.path("m")))
 
+    def test_names_that_are_left_out(self):
+        os.makedirs(self.path("w", "d", "build"))
+        self.write("d/build/o", "3")
+        self.write("build", "4")
+        skip = ("--skip", "build", "--skip", "b")
+        self.assertEqual(self.up(*skip)[0].skip, ("b", "build"))
+        self.assertEqual(self.listed(), ["a"])
+        self.write("d/build/p", "5")
+        self.write("d/c", "6")
+        self.run_it("sync", status=0)
+        self.assertEqual(self.listed(), ["a", "d/c"])
+        # The same names in another order are the same setting.
+        self.assertEqual(self.up("--skip", "b", "--skip", "build", "--skip", "b")[2], "")
+        self.assertIn("another setting of --skip", self.up("--skip", "b")[2])
+        for word in ("", ".", "..", "d/b"):
+            said = self.run_it("up", "--skip", word, at=self.path("w", "d"), status=1)[1]
+            self.assertIn("is no name of a file that can be left out", said)
+
     def test_a_copy_in_the_directory(self):
         mount, _, _ = self.up()
         for at in ([], ["--socket", mount.socket]):

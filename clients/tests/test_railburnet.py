@@ -1,5 +1,6 @@
 """Frames, paths, patterns and mirrors of the library, by docs/formats.md."""
 import collections
+import hashlib
 import os
 import random
 import re
@@ -24,6 +25,7 @@ from railburnet import (
     ContentIs,
     Fetch,
     File,
+    FileStat,
     FrameFault,
     Kind,
     ListIs,
@@ -34,9 +36,21 @@ from railburnet import (
     Position,
     Query,
     Refused,
+    Stat,
+    StatIs,
 )
 
 ONE = Query(1, 1, 1)
+
+
+def blob_id(content):
+    """The id that `git hash-object` prints for a file with these bytes, as bytes."""
+    return hashlib.sha1(b"blob %d\0" % len(content) + content).digest()
+
+
+def stat_of(file):
+    """A file without its bytes, or None."""
+    return file and FileStat(file.kind, len(file.content), blob_id(file.content))
 
 
 def known_frames():
@@ -82,6 +96,9 @@ class Frames(unittest.TestCase):
             BasisIs(ONE, second, [b"a"]),
             ChangesAre(ONE, second, [(Mark.CREATED, b"a")], []),
             ContentIs(ONE, second, b"a", File(Kind.PLAIN, b"hi")),
+            Stat(ONE, b"a"),
+            StatIs(ONE, first, b"a", None),
+            StatIs(ONE, second, b"a", FileStat(Kind.PLAIN, 2, blob_id(b"hi"))),
             Below(ONE, b"d", (b"d/*",)),
             ListIs(ONE, third, b"d", [b"d/x"]),
             ChangesAre(ONE, fourth, [], [b"d", b"e"]),
@@ -90,7 +107,7 @@ class Frames(unittest.TestCase):
         names = [type(message).__name__.replace("Below", "List") for message in wanted]
         self.assertEqual([kind_of(name) for name, _ in frames], names)
         for (name, frame), message in zip(frames, wanted):
-            if isinstance(message, (Basis, Poll, Fetch, Below)):
+            if isinstance(message, (Basis, Poll, Fetch, Stat, Below)):
                 patience = 10_000 if "Patient" in name else 0
                 self.assertEqual(railburnet.encode_request(message, patience), frame)
             else:
@@ -130,7 +147,7 @@ class Frames(unittest.TestCase):
 
     def test_every_cut(self):
         for name, frame in known_frames():
-            if kind_of(name) in ("Basis", "Poll", "Fetch", "List"):
+            if kind_of(name) in ("Basis", "Poll", "Fetch", "Stat", "List"):
                 continue
             for end in range(4, len(frame)):
                 with self.assertRaises(FrameFault) as raised:
@@ -175,6 +192,11 @@ class Frames(unittest.TestCase):
             (tagged(0x85, here + b"\0\1d\0\0\0\2\0\3d/x"), "CutShort"),
             (tagged(0x83, here + b"\0\1a\4"), "BadField"),
             (tagged(0x83, here + b"\0\1a\1\0\x80\0\1"), "BadField"),
+            (tagged(0x88, here + b"\0\1a\2"), "BadField"),
+            (tagged(0x88, here + b"\0\1a\1\0"), "BadField"),
+            (tagged(0x88, here + b"\0\1a\1\4"), "BadField"),
+            (tagged(0x87, here), "BadTag"),
+            (tagged(0x08, b"\0\1a"), "BadTag"),
             (b"", "CutShort"),
         ):
             with self.assertRaises(FrameFault) as raised:
@@ -230,11 +252,14 @@ class Frames(unittest.TestCase):
 
         told = collections.Counter()
         for turn in range(20_000):
-            tag = chance.choice((0x81, 0x82, 0x82, 0x85))
+            tag = chance.choice((0x81, 0x82, 0x82, 0x85, 0x88))
             body = bytearray(bytes([2, tag]) + bytes(24 + 36))
-            if tag == 0x85:
+            if tag in (0x85, 0x88):
                 body += struct.pack(">H", 1) + b"d"
-            body += listed(tag == 0x82) + (listed(False) if tag == 0x82 else b"")
+            if tag == 0x88:
+                body += chance.choice((b"\0", bytes([1, chance.choice((1, 2, 3))]) + bytes(24)))
+            else:
+                body += listed(tag == 0x82) + (listed(False) if tag == 0x82 else b"")
             if turn % 2:
                 for _ in range(chance.randrange(1, 4)):
                     body[chance.randrange(len(body))] = chance.choice(
@@ -250,11 +275,12 @@ class Frames(unittest.TestCase):
             )
             self.assertEqual(came, wanted, bytes(body))
             told[wanted if isinstance(wanted, str) else type(wanted).__name__] += 1
+        replies = ("BasisIs", "ChangesAre", "ListIs", "StatIs")
         # Each of them was met often.
         self.assertGreater(
             min(
                 told[name]
-                for name in ("BadField", "CutShort", "Trailing", "BasisIs", "ChangesAre", "ListIs")
+                for name in ("BadField", "CutShort", "Trailing", *replies)
             ),
             50,
             told,
@@ -882,6 +908,17 @@ class Connections(InFolder):
                 self.assertEqual(client.basis([b"a"]).paths, [b"a"])
             self.assertEqual(relay.tags, [7] * 8 + [1])
 
+    def test_a_mount_that_knows_no_stat(self):
+        """An older one ends the connection, and is fetched from as ever."""
+        port, _ = self.server(b"mount empty 7 1000000\nwrite a plain 1\n")
+        fault = re.escape("the mount ended the connection (the mount may be too old for stat)")
+        with Relay(port, refused=[frames.STAT_TAG]) as relay:
+            with railburnet.Client(relay.port, connections=2) as client:
+                with self.assertRaisesRegex(railburnet.ConnectionLost, fault):
+                    client.stat(b"a")
+                self.assertEqual(client.fetch(b"a").file, File(Kind.PLAIN, b"1"))
+            self.assertEqual(relay.tags, [8, 8, 3])
+
     def test_another_version(self):
         """A frame of version 1 ends the connection, and nothing is answered."""
         port, _ = self.server(b"mount empty 7 1000000\n")
@@ -918,6 +955,10 @@ class Connections(InFolder):
         self.assertEqual(client.since(Position(7, 2)).marked, marked)
         self.assertEqual(client.fetch(b"d/b").file, File(Kind.EXEC, b"2"))
         self.assertIsNone(client.fetch(b"d/a").file)
+        for path in (b"d/b", b"c", b"d/a"):
+            fetched, stated = client.fetch(path), client.stat(path)
+            wanted = StatIs(stated.query, fetched.position, path, stat_of(fetched.file))
+            self.assertEqual(stated, wanted)
         for position, refused in (
             (Position(6, 1), (Cause.STALE, 7)),
             (Position(7, 6), (Cause.AHEAD, 5)),

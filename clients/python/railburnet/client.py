@@ -42,6 +42,8 @@ from .frames import (
     Refused,
     Reply,
     Request,
+    Stat,
+    StatIs,
     TooLarge,
     decode_reply,
     drop_own,
@@ -311,6 +313,14 @@ class Client:
         assert isinstance(reply, ContentIs) and reply.path == path
         return reply
 
+    def stat(self, path: bytes) -> StatIs:
+        """What stands at a path, without its bytes: its kind, their number and their id.
+
+        ConnectionLost also if the mount is too old for it."""
+        reply = self._ask(Stat(self._query(), path))
+        assert isinstance(reply, StatIs) and reply.path == path
+        return reply
+
     def below(self, prefix: bytes, patterns: Iterable[bytes] = ()) -> ListIs:
         """The paths of the files below a directory that the patterns admit. TooLarge where they
         don't fit into a frame."""
@@ -353,7 +363,7 @@ class Client:
         """One round of a mirror. IGNORED where no reply counted any more, since the mount was
         begun anew meanwhile: begin another."""
         mirror.begin()
-        for _ in self._connections(mirror.patterns):
+        for _ in self._connections(_newer_patterns(mirror.patterns)):
             outcome = self._deliveries(mirror)
             while outcome is Outcome.TAKEN:
                 outcome = self._deliveries(mirror)
@@ -376,8 +386,7 @@ class Client:
         return last
 
     def _ask(self, request: Request) -> Reply:
-        patterns = () if isinstance(request, Fetch) else request.patterns
-        for _ in self._connections(patterns):
+        for _ in self._connections(_newer(request)):
             try:
                 return self._reply(request)
             except (ConnectionLost, FrameFault) as fault:
@@ -398,9 +407,9 @@ class Client:
         self._number += 1
         return Query(self._mirror, self._life, self._number)
 
-    def _connections(self, patterns: Sequence[bytes]) -> Iterator[int]:
+    def _connections(self, newer: str = "") -> Iterator[int]:
         """A turn for each connection that may be made; then the last fault is raised. If the mount
-        ended the connection soon and some patterns exclude, its message says that they may be why.
+        ended the connection soon and was asked what is newer, its message says that this may be why.
         """
         begun = 0.0
         for turn in range(self._most):
@@ -409,10 +418,10 @@ class Client:
             begun = time.monotonic()
             yield turn
         fault = self._fault
-        if isinstance(fault, ConnectionLost) and fault.errno in ENDED and parted(patterns)[1]:
+        if isinstance(fault, ConnectionLost) and fault.errno in ENDED and newer:
             # A mount that has no place for a connection ends it too, but later.
             if time.monotonic() - begun < SILENT:
-                why = "the mount may be too old for patterns with `!`"
+                why = f"the mount may be too old for {newer}"
                 fault = ConnectionLost(fault.errno, f"{fault.strerror} ({why})")
         raise fault
 
@@ -420,7 +429,7 @@ class Client:
         """Returns a connection that the mount has not ended, before anything is sent over it."""
         if self._connection is not None and not self._connection.is_open:
             self.close()
-        for _ in self._connections(()):
+        for _ in self._connections():
             try:
                 return self._connected()
             except ConnectionLost as fault:
@@ -463,6 +472,19 @@ def _connect(place: Place, host: str, timeout: float) -> socket.socket:
         connected.close()
         raise
     return connected
+
+
+def _newer(request: Request) -> str:
+    """Returns what a request has that the first mounts of version 2 end the connection at."""
+    if isinstance(request, Stat):
+        return "stat"
+    if isinstance(request, Fetch):
+        return ""
+    return _newer_patterns(request.patterns)
+
+
+def _newer_patterns(patterns: Sequence[bytes]) -> str:
+    return "patterns with `!`" if parted(patterns)[1] else ""
 
 
 def _changes(reply: Reply) -> ChangesAre:

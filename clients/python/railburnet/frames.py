@@ -26,6 +26,7 @@ MOST_CONTENT = 8_388_608
 MOST_NUMBER = 2**64 - 1
 PATIENCE_TAG = 5
 EXCLUSIONS_TAG = 7
+STAT_TAG = 8
 OWN_PATHS = b".git/.railburnet"
 """The directory of a mount in which feed keeps files of its own: no directory that it follows
 has it."""
@@ -91,6 +92,16 @@ class File:
 
 
 @dataclass(frozen=True)
+class FileStat:
+    """A file without its bytes: their number, and the id of the blob that they make, as
+    `git hash-object` prints it."""
+
+    kind: Kind
+    length: int
+    id: bytes
+
+
+@dataclass(frozen=True)
 class Basis:
     """Which paths hold a file?"""
 
@@ -110,6 +121,14 @@ class Poll:
 @dataclass(frozen=True)
 class Fetch:
     """What stands at a path?"""
+
+    query: Query
+    path: bytes
+
+
+@dataclass(frozen=True)
+class Stat:
+    """What stands at a path, without its bytes?"""
 
     query: Query
     path: bytes
@@ -154,6 +173,16 @@ class ContentIs:
 
 
 @dataclass(frozen=True)
+class StatIs:
+    """This stands at the path, at this position, without its bytes; None where no file does."""
+
+    query: Query
+    position: Position
+    path: bytes
+    stat: Optional[FileStat]
+
+
+@dataclass(frozen=True)
 class Refused:
     """The request is refused; the value is the mount's generation, its present number or its
     floor, by the cause."""
@@ -173,8 +202,8 @@ class ListIs:
     paths: List[bytes]
 
 
-Request = Union[Basis, Poll, Fetch, Below]
-Reply = Union[BasisIs, ChangesAre, ContentIs, Refused, ListIs]
+Request = Union[Basis, Poll, Fetch, Stat, Below]
+Reply = Union[BasisIs, ChangesAre, ContentIs, StatIs, Refused, ListIs]
 Message = TypeVar("Message")
 
 
@@ -375,8 +404,9 @@ def encode_request(request: Request, patience: int = 0) -> bytes:
     if not 0 <= patience < 2**32:
         raise ValueError(f"{patience} is no number of milliseconds that a frame holds")
     before = b""
-    if isinstance(request, Fetch):
-        tag, fields = 3, spelled_path(request.path)
+    if isinstance(request, (Fetch, Stat)):
+        tag = 3 if isinstance(request, Fetch) else STAT_TAG
+        fields = spelled_path(request.path)
     else:
         before, wanted = _checked_filter(request.patterns)
         if isinstance(request, Below):
@@ -512,6 +542,14 @@ class Fields:
             raise FrameFault("BadField")
         return File(Kind(kind), self.take(length))
 
+    def stat(self) -> Optional[FileStat]:
+        found = self.number(1)
+        if found == 0:
+            return None
+        if found > 1:
+            raise FrameFault("BadField")
+        return FileStat(Kind(self.one_of(Kind)), self.number(4), self.take(20))
+
     def refused(self, query: Query) -> Refused:
         cause = Cause(self.one_of(Cause))
         value = self.number(8)
@@ -529,7 +567,7 @@ class Fields:
         return tag, Query(self.number(8), self.number(8), self.number(8))
 
     def reply(self) -> Reply:
-        tag, query = self.head(range(0x81, 0x86))
+        tag, query = self.head((0x81, 0x82, 0x83, 0x84, 0x85, 0x88))
         if tag == 0x84:
             return self.refused(query)
         position = self.position()
@@ -540,6 +578,8 @@ class Fields:
         path = self.path()
         if tag == 0x83:
             return ContentIs(query, position, path, self.file())
+        if tag == 0x88:
+            return StatIs(query, position, path, self.stat())
         return ListIs(query, position, path, self.paths(path + b"/"))
 
 

@@ -24,6 +24,7 @@ from .frames import (
     Refused,
     Reply,
     Request,
+    StatIs,
     drop_own,
     lies_below,
 )
@@ -141,6 +142,8 @@ class Mirror:
     def deliver(self, reply: Reply) -> Outcome:
         """Takes a reply where it belongs to the round."""
         if reply.query != Query(self.mirror, self.life, self.number):
+            return Outcome.IGNORED
+        if isinstance(reply, StatIs):
             return Outcome.IGNORED
         if isinstance(reply, ContentIs):
             return self._content(reply)

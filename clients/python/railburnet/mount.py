@@ -67,13 +67,19 @@ def ensure(
     timeout: float = 600.0,
     front: str = "",
     feed: Sequence[str] = (),
+    skip: Sequence[str] = (),
 ) -> Mount:
     """Returns the mount of a directory, and begins it unless there is one, once however many ask.
 
     A front, which is a program with a name, has a mount for itself beside the one that there may
-    be. `feed` is given to the feed.
+    be. `feed` is given to the feed. What has a name of `skip` is left out.
     """
-    return begin(root, names, whole_renames, empty, port, say, timeout, front, feed)[0]
+    return begin(root, names, whole_renames, empty, port, say, timeout, front, feed, skip)[0]
+
+
+def names_of(skip: Sequence[str]) -> Tuple[str, ...]:
+    """Returns the names that are left out, each once and in their order, as a mount notes them."""
+    return tuple(sorted(set(skip)))
 
 
 def begin(
@@ -86,6 +92,7 @@ def begin(
     timeout: float,
     front: str = "",
     feed: Sequence[str] = (),
+    skip: Sequence[str] = (),
 ) -> Tuple[Mount, bool]:
     """Returns the mount of a directory, and whether this call has begun it.
 
@@ -97,13 +104,16 @@ def begin(
     root = os.path.realpath(root)
     if not os.path.isdir(root):
         raise MountFault(f"{os.fsdecode(root)} is not a directory")
+    for name in skip:
+        if not name or "/" in name or name in (".", ".."):
+            raise MountFault(f"{name!r} is no name of a file that can be left out")
     folder = state.folder_of(root, front)
     state.make_folder(folder)
     with state.locked(folder):
         mount = state.find(root, front)
         if mount is not None:
             return mount, False
-        begins = _Beginning(root, front, feed, say, timeout)
+        begins = _Beginning(root, front, feed, names_of(skip), say, timeout)
         return begins.mount(names, whole_renames, empty, port), True
 
 
@@ -169,10 +179,12 @@ class _Beginning:
         root: bytes,
         front: str,
         feed: Sequence[str],
+        skip: Tuple[str, ...],
         say: Callable[[str], None],
         timeout: float,
     ) -> None:
         self._root, self._front, self._feed, self._say = root, front, feed, say
+        self._skip = skip
         self._folder = state.folder_of(root, front)
         self._end = time.monotonic() + timeout
         self._edend = edend_program()
@@ -188,6 +200,7 @@ class _Beginning:
         writable = isinstance(place, str) and self._edend_knows("--writable")
         commit = None if empty or names else self._write_objects()
         words = ["--control", self._control, *self._feed]
+        words += [f"--skip={name}" for name in self._skip]
         words += ["--names"] if names else []
         words += [] if whole_renames else ["--each-file"]
         words += ["--socket", self._early] if writable else []
@@ -206,6 +219,7 @@ class _Beginning:
                 whole_renames,
                 self._front,
                 "" if isinstance(place, int) else place,
+                self._skip,
             )
             state.note(self._folder, mount, state.BEGINNING)
             self._wait(feed, edend, place)

@@ -75,6 +75,8 @@ class Mount(NamedTuple):
     """Which program has this mount for itself, beside the one that `railburnet up` begins; nothing for that one."""
     socket: str = ""
     """The path of the socket that it is served at, if it is at one."""
+    skip: Tuple[str, ...] = ()
+    """The names that it leaves out, in their order."""
 
     @property
     def place(self) -> Place:
@@ -105,7 +107,12 @@ class Mount(NamedTuple):
     def of_json(fields: Dict[str, Any]) -> Mount:
         """Returns the mount of such fields."""
         processes: Dict[str, Any] = {name: Process(**fields[name]) for name in ("edend", "feed")}
-        named: Dict[str, Any] = {**fields, "root": os.fsencode(fields["root"]), **processes}
+        named: Dict[str, Any] = {
+            **fields,
+            "root": os.fsencode(fields["root"]),
+            "skip": tuple(fields.get("skip", ())),
+            **processes,
+        }
         return Mount(**named)
 
 

@@ -46,6 +46,14 @@ def add_options(parser: argparse.ArgumentParser) -> None:
         "--empty", action="store_true", help="mount the empty commit, also if there is a HEAD"
     )
     parser.add_argument(
+        "--skip",
+        action="append",
+        default=[],
+        metavar="NAME",
+        help="leave out each file and each directory with this name, wherever it is, as .git is; "
+        "may be given again",
+    )
+    parser.add_argument(
         "--no-whole-renames",
         dest="whole_renames",
         action="store_false",
@@ -95,6 +103,7 @@ def _begin(options: argparse.Namespace, root: bytes) -> Mount:
         options.port,
         say,
         options.timeout,
+        skip=options.skip,
     )
     how = f"{time.monotonic() - begun:.1f} s" if begins else "up already"
     names = ", names alone" if mount.names else ""
@@ -108,6 +117,7 @@ def _begin(options: argparse.Namespace, root: bytes) -> Mount:
         (mount.names != options.names, "--names"),
         (mount.whole_renames != options.whole_renames, "--no-whole-renames"),
         (options.port not in (None, mount.port), "--port"),
+        (mount.skip != mounts.names_of(options.skip), "--skip"),
     ):
         if differs:
             say(f"the mount was begun with another setting of {word}; `railburnet down` ends it")
