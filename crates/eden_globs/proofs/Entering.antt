@@ -4,8 +4,9 @@ use Rattle.std.proofs.Math.Bool.{and-false, or-true}
 use Rattle.std.proofs.lemmas.Bool.{and_parts, eqb-true}
 use Rattle.std.specs.List.{list_any, onto_first, starts_with}
 use Rattle.eden_ids.specs.Paths.{components, lies_below}
-use Rattle.eden_globs.specs.Filters.{Patterns, admits, ends_in_any_names, enters, first_then, includes, includes_below, is_any_names, name_matches, names_of, parts_enter, path_matches, pattern_enters, pattern_matches, pattern_takes, some_match, some_rest, some_take}
+use Rattle.eden_globs.specs.Filters.{Patterns, admits, ends_in_any_names, enters, first_then, includes, includes_below, is_any_names, is_none_left, name_matches, names_of, parts_enter, path_matches, pattern_enters, pattern_matches, pattern_takes, some_match, some_rest, some_take}
 use Rattle.eden_globs.proofs.Splitting.{here, later}
+use Rattle.eden_globs.proofs.Stretches.{some_alike, some_empty, some_first}
 
 -- ---- the parts of a directory's path and of what lies below it
 
@@ -93,15 +94,10 @@ none_included (p ∷ ps) directory path e below =
 -- ---- a pattern that takes a directory matches what lies below
 
 pub all_rests : (names : List (List ℕ)) → some_rest (path_matches []) names ≡ true
-all_rests [] = refl
-all_rests (n ∷ names) = all_rests names
-
-rests_from : (test : List (List ℕ) → Bool) (names : List (List ℕ)) → test names ≡ true → some_rest test names ≡ true
-rests_from test [] e = e
-rests_from test (n ∷ names) e = ap (λ b. b || some_rest test names) e
+all_rests names = some_alike (path_matches []) is_none_left (λ ns. refl) names ∙ some_empty names
 
 rests_more : (test : List (List ℕ) → Bool) (more : List (List ℕ)) → ((names : List (List ℕ)) → test names ≡ true → test (names ++ more) ≡ true) → (names : List (List ℕ)) → some_rest test names ≡ true → some_rest test (names ++ more) ≡ true
-rests_more test more keeps [] e = rests_from test more (keeps [] e)
+rests_more test more keeps [] e = some_first test more (keeps [] e)
 rests_more test more keeps (n ∷ names) e = by (test (n ∷ names)) refl e (rests_more test more keeps names)
   where
     by : (t : Bool) → test (n ∷ names) ≡ t → (t || some_rest test names) ≡ true → (some_rest test names ≡ true → some_rest test (names ++ more) ≡ true)

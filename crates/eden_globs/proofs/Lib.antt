@@ -1,8 +1,9 @@
 mod Splitting
-mod Rows
+mod Stretches
 mod Tokens
 mod Parts
 mod Ends
+mod Edges
 mod Entering
 mod Plain
 pub mod FilterLemmas

@@ -1,26 +1,16 @@
 -- What tokens match, beside the bytes that they stand for.
 use Rattle.std.proofs.Common.{◌≡◌, ◌≢◌, ℕ, suc, ◌+◌, ◌-◌, ◌<◌, ◌≤◌, Bool, true, false, cond, ◌&&◌, ◌||◌, nat_eq, nat_lt, List, [], ◌∷◌, ◌++◌, drop, length, map, codes, refl, sym, ap, ◌∙◌, arith, append_assoc}
 use Rattle.std.proofs.lemmas.Bool.{ltb-true, ltb-false}
-use Rattle.std.proofs.lemmas.List.{append-nil, drop_all}
+use Rattle.std.proofs.lemmas.List.{append-nil, drop_all, drop_more}
 use Rattle.std.proofs.Math.Bool.{and-false, or-false}
 use Rattle.std.specs.List.{ends_with, slice_index_or, starts_with}
 use Rattle.std.specs.Cmp.Lexicographic.{bytes_decides}
 use Rattle.eden_ids.specs.Sameness.{same_bytes}
 use Rattle.eden_globs.specs.Filters.{first_then, is_any_names, is_none_left, name_matches, some_rest}
 use Rattle.eden_globs.specs.internal.Compiled.{AreTokensOf, StandsFor, tokens_match}
-use Rattle.eden_globs.proofs.Rows.{dropped}
+use Rattle.eden_globs.proofs.Stretches.{first_alike, some_alike, some_empty}
 use Rattle.eden_globs.specs.declared.pattern.Token.{Token}
 use Rattle.eden_globs.specs.declared.pattern.Token.TheVariants.{Run, Any, Byte}
-
-module _ {X : Type 0} where
-  -- tests that answer alike do so of the rests of a list
-  pub some_alike : (f g : List X → Bool) → ((xs : List X) → f xs ≡ g xs) → (xs : List X) → some_rest f xs ≡ some_rest g xs
-  some_alike f g alike [] = alike []
-  some_alike f g alike (x ∷ xs) = ap (λ b. b || some_rest f xs) (alike (x ∷ xs)) ∙ ap (λ b. g (x ∷ xs) || b) (some_alike f g alike xs)
-
-  pub first_alike : (first : X → Bool) (f g : List X → Bool) → ((xs : List X) → f xs ≡ g xs) → (xs : List X) → first_then first f xs ≡ first_then first g xs
-  first_alike first f g alike [] = refl
-  first_alike first f g alike (x ∷ xs) = ap (λ b. first x && b) (alike xs)
 
 -- ---- a byte of a part
 
@@ -56,14 +46,14 @@ pub token_next : (text : List ℕ) (done : List Token) (token : Token) (i : ℕ)
     → (rest : List Token) → AreTokensOf rest false (drop (i + 1) text) → AreTokensOf ((done ++ token ∷ []) ++ rest) false text
 token_next text done token i escaped within stands so rest is name =
     ap (λ ts. tokens_match ts name) (append_assoc done (token ∷ []) rest)
-    ∙ so (token ∷ rest) (λ n. stands rest (drop (i + 1) text) is n ∙ sym (ap (λ t. name_matches escaped t n) (dropped text i 0 within))) name
+    ∙ so (token ∷ rest) (λ n. stands rest (drop (i + 1) text) is n ∙ sym (ap (λ t. name_matches escaped t n) (drop_more text i 0 within))) name
 
 pub escape_next : (text : List ℕ) (done : List Token) (i : ℕ) (escaped : Bool) → i < length text → escaped ≡ false → slice_index_or text i 0 ≡ 92
     → ((rest : List Token) → AreTokensOf rest escaped (drop i text) → AreTokensOf (done ++ rest) false text)
     → (rest : List Token) → AreTokensOf rest true (drop (i + 1) text) → AreTokensOf (done ++ rest) false text
 escape_next text done i escaped within plain backslash so rest is name =
     so rest (λ n. is n ∙ escape_first (drop (i + 1) text) n ∙ ap (λ b. name_matches false (b ∷ drop (i + 1) text) n) (sym backslash)
-    ∙ sym (ap (λ t. name_matches false t n) (dropped text i 0 within)) ∙ ap (λ e. name_matches e (drop i text) n) (sym plain)) name
+    ∙ sym (ap (λ t. name_matches false t n) (drop_more text i 0 within)) ∙ ap (λ e. name_matches e (drop i text) n) (sym plain)) name
 
 none_stands : (escaped : Bool) → AreTokensOf [] escaped []
 none_stands true name = refl
@@ -83,13 +73,9 @@ bytes_match [] (n ∷ name) = refl
 bytes_match (b ∷ bytes) [] = refl
 bytes_match (b ∷ bytes) (n ∷ name) = ap (λ t. nat_eq b n && t) (bytes_match bytes name)
 
-any_rest : (name : List ℕ) → some_rest is_none_left name ≡ true
-any_rest [] = refl
-any_rest (n ∷ name) = any_rest name
-
 pub beginning_match : (bytes name : List ℕ) → starts_with nat_eq name bytes ≡ tokens_match (map Byte bytes ++ Run ∷ []) name
 beginning_match [] [] = refl
-beginning_match [] (n ∷ name) = sym (any_rest (n ∷ name))
+beginning_match [] (n ∷ name) = sym (some_empty (n ∷ name))
 beginning_match (b ∷ bytes) [] = refl
 beginning_match (b ∷ bytes) (n ∷ name) = ap (λ t. nat_eq b n && t) (beginning_match bytes name)
 
@@ -104,7 +90,7 @@ none_longer bytes [] short = unlike bytes [] (λ e. absurd (omega (arith, short,
 none_longer bytes (n ∷ name) short =
     ap (λ t. t || some_rest (same_bytes bytes) name) (unlike bytes (n ∷ name) (λ e. absurd (omega (arith, short, e)))) ∙ none_longer bytes name (omega (arith, short))
 
-ending_some : (bytes name : List ℕ) → ends_with nat_eq name bytes ≡ some_rest (same_bytes bytes) name
+pub ending_some : (bytes name : List ℕ) → ends_with nat_eq name bytes ≡ some_rest (same_bytes bytes) name
 ending_some bytes [] = ap (same_bytes bytes) (drop_all (0 - length bytes) [] (omega arith))
 ending_some bytes (n ∷ name) =
     elim (nat_lt (length name) (length bytes)) as (λ t. nat_lt (length name) (length bytes) ≡ t → ends_with nat_eq (n ∷ name) bytes ≡ some_rest (same_bytes bytes) (n ∷ name)) [
@@ -128,4 +114,4 @@ each_matches text is name = all_rests name ∙ ap (λ t. name_matches false t na
   where
     all_rests : (name : List ℕ) → true ≡ name_matches false (codes "**") name
     all_rests [] = refl
-    all_rests (n ∷ name) = ap (λ t. t || some_rest (some_rest is_none_left) name) (sym (any_rest (n ∷ name)))
+    all_rests (n ∷ name) = ap (λ t. t || some_rest (some_rest is_none_left) name) (sym (some_empty (n ∷ name)))

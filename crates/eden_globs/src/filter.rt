@@ -3,12 +3,12 @@
 ghost use Rattle.std.specs.Prelude.{◌≡◌, ◌≢◌, ◌<◌, ◌≤◌, ◌==◌, ◌&&◌, ◌||◌, ℕ, List, [], false, true, nat_lt, length, not, None, Some, map, IfOk, IfErr, IfSome, nat_eq};
 ghost use Rattle.std.specs.List.{list_all, list_any};
 ghost use Rattle.eden_ids.specs.Paths.{IsPath, components, lies_below};
-ghost use Rattle.eden_globs.specs.Filters.{admits, all_paths, ends_in_any_names, enters, filter_fault, includes, includes_below, including, is_part, is_spelled, lists, path_matches, pattern_enters, pattern_fault, same_filter, some_match, some_take};
-ghost use Rattle.eden_globs.specs.internal.Compiled.{AreCompiled, AreShort, EndsIn, lent};
+ghost use Rattle.eden_globs.specs.Filters.{admits, all_paths, ends_in_any_names, enters, filter_fault, includes, includes_below, including, is_part, is_spelled, lists, names_of, pattern_enters, pattern_fault, same_filter, some_match, some_take};
+ghost use Rattle.eden_globs.specs.internal.Compiled.{AreCompiled, left_of};
 ghost use Rattle.eden_globs.specs.internal.Sameness.{filters_equiv, filters_per};
 ghost use Rattle.eden_globs.specs.internal.Sharing.{patterns_of};
 
-use crate::matching::{cut_names, is_admitted, is_end_matched, is_entered, is_taken, last_name};
+use crate::matching::{is_entered, is_matched, is_taken};
 use crate::pattern::{Part, parts_of};
 use crate::stored::Stored;
 use eden_ids::{NoMemory, Path};
@@ -17,15 +17,6 @@ use std::fmt;
 use std::marker::Model;
 use std::sync::Arc;
 use thiserror::Error;
-
-/// More components than most paths have.
-const FEW_NAMES: usize = 16;
-
-/// The most components of a path.
-const DEEPEST: usize = 64;
-
-/// The most components of bytes that are no longer than a path.
-const MOST_NAMES: usize = 1025;
 
 /// Why a list of patterns is not a filter.
 ///
@@ -167,99 +158,21 @@ fn compile(alloc: Global, patterns: &[Vec<u8>]) -> Result<Vec<Vec<Part>>, AllocE
     Ok(compiled)
 }
 
-/// Returns true if a pattern matches the path of these names.
-fn is_any_matched(compiled: &[Vec<Part>], names: &[&[u8]]) -> bool
-    requires few { length names.now ≤ 1025 }
-    requires short { AreShort (lent names.now) }
-    ensures { (patterns : List (List ℕ)) → AreCompiled compiled.now patterns → result ≡ list_any (λ pattern. path_matches (components pattern) (lent names.now)) patterns }
-{
-    for parts in compiled {
-        if is_admitted(parts.as_slice(), names) {
-            return true;
-        }
-    }
-    false
-}
-
-/// Returns true if a pattern that ends in `**` matches the path of these names.
-fn is_any_taken(compiled: &[Vec<Part>], names: &[&[u8]]) -> bool
-    requires few { length names.now ≤ 1025 }
-    requires short { AreShort (lent names.now) }
-    ensures { (patterns : List (List ℕ)) → AreCompiled compiled.now patterns
-        → result ≡ list_any (λ pattern. ends_in_any_names (components pattern) && path_matches (components pattern) (lent names.now)) patterns }
-{
-    for parts in compiled {
-        if is_taken(parts.as_slice(), names) {
-            return true;
-        }
-    }
-    false
-}
-
-/// Returns whether a pattern matches each path that ends in this name, if that decides it.
-fn is_any_end_matched(compiled: &[Vec<Part>], name: &[u8]) -> Option<bool>
-    requires { length name.now ≤ 1024 }
-    ensures { IfSome result (λ matched. (patterns names : List (List ℕ)) → AreCompiled compiled.now patterns → EndsIn names name.now
-        → list_any (λ pattern. path_matches (components pattern) names) patterns ≡ matched) }
-{
-    let mut matched = Some(false);
-    for parts in compiled {
-        match is_end_matched(parts.as_slice(), name) {
-            Some(true) => return Some(true),
-            Some(false) => {}
-            None => matched = None,
-        }
-    }
-    matched
-}
-
-/// Returns true if a pattern matches the path of these bytes.
-///
-/// `names` is space for the names of the path. Returns `None` if there is no room for them.
-fn has_match_in<'a>(names: &mut [&'a [u8]], compiled: &[Vec<Part>], path: &'a [u8]) -> Option<bool>
-    requires { length path.now ≤ 1024 }
-    ensures none { result ≡ None → length names.old < length (components path.now) }
-    ensures some { IfSome result (λ matched. (patterns : List (List ℕ)) → AreCompiled compiled.now patterns → matched ≡ some_match patterns path.now) }
-{
-    let count = cut_names(names, path)?;
-    Some(is_any_matched(compiled, &names[..count]))
-}
-
-/// Returns what `has_match` does, for a path of many names.
-fn has_deep_match(compiled: &[Vec<Part>], path: &[u8]) -> bool
-    requires { IsPath path.now }
-    ensures { (patterns : List (List ℕ)) → AreCompiled compiled.now patterns → result ≡ some_match patterns path.now }
-{
-    let mut names = [path; DEEPEST];
-    match has_match_in(&mut names, compiled, path) {
-        Some(matched) => matched,
-        // No path has more names.
-        None => false,
-    }
-}
-
 /// Returns true if a pattern matches the path of these bytes.
 fn has_match(compiled: &[Vec<Part>], path: &[u8]) -> bool
-    requires { IsPath path.now }
     ensures { (patterns : List (List ℕ)) → AreCompiled compiled.now patterns → result ≡ some_match patterns path.now }
 {
-    // The last name decides it for most paths, before anything is stored.
-    if let Some(matched) = is_any_end_matched(compiled, last_name(path)) {
-        return matched;
+    for parts in compiled {
+        if is_matched(parts.as_slice(), path) {
+            return true;
+        }
     }
-    let mut names = [path; FEW_NAMES];
-    match has_match_in(&mut names, compiled, path) {
-        Some(matched) => matched,
-        None => has_deep_match(compiled, path),
-    }
+    false
 }
 
-/// Returns true if one of the patterns enters a directory.
-///
-/// The directory is not the root, and is no longer than a path.
+/// Returns true if one of the patterns enters a directory, which is not the root.
 fn is_any_entered(compiled: &[Vec<Part>], directory: &[u8]) -> bool
-    requires some { 0 < length directory.now }
-    requires short { length directory.now ≤ 1024 }
+    requires { 0 < length directory.now }
     ensures { (patterns : List (List ℕ)) → AreCompiled compiled.now patterns → result ≡ list_any (λ pattern. pattern_enters pattern directory.now) patterns }
 {
     for parts in compiled {
@@ -270,51 +183,27 @@ fn is_any_entered(compiled: &[Vec<Part>], directory: &[u8]) -> bool
     false
 }
 
-/// Returns true if one of the patterns takes a directory whole.
-///
-/// The directory is not the root. `names` is space for its names. Returns `None` if there is
-/// no room for them.
-fn is_any_taken_in<'a>(
-    names: &mut [&'a [u8]],
-    compiled: &[Vec<Part>],
-    directory: &'a [u8],
-) -> Option<bool>
-    requires some { 0 < length directory.now }
-    requires short { length directory.now ≤ 1024 }
-    ensures none { result ≡ None → length names.old < length (components directory.now) }
-    ensures some { IfSome result (λ taken. (patterns : List (List ℕ)) → AreCompiled compiled.now patterns → taken ≡ some_take patterns directory.now) }
+/// Returns the bytes of a directory's names, of which the root has none.
+fn names_of(directory: &[u8]) -> Option<&[u8]>
+    ensures { left_of result ≡ names_of directory.now }
 {
-    let count = cut_names(names, directory)?;
-    Some(is_any_taken(compiled, &names[..count]))
-}
-
-/// Returns what `has_taker` does, for a directory with more names than a path.
-fn has_deep_taker(compiled: &[Vec<Part>], directory: &[u8]) -> bool
-    requires some { 0 < length directory.now }
-    requires short { length directory.now ≤ 1024 }
-    ensures { (patterns : List (List ℕ)) → AreCompiled compiled.now patterns → result ≡ some_take patterns directory.now }
-{
-    let mut names = [directory; MOST_NAMES];
-    match is_any_taken_in(&mut names, compiled, directory) {
-        Some(taken) => taken,
-        // No directory that is no longer than a path has more names.
-        None => false,
+    if directory.is_empty() {
+        return None;
     }
+    Some(directory)
 }
 
 /// Returns true if one of the patterns takes a directory whole.
 fn has_taker(compiled: &[Vec<Part>], directory: &[u8]) -> bool
-    requires { length directory.now ≤ 1024 }
     ensures { (patterns : List (List ℕ)) → AreCompiled compiled.now patterns → result ≡ some_take patterns directory.now }
 {
-    if directory.is_empty() {
-        return is_any_taken(compiled, &[]);
+    let names = names_of(directory);
+    for parts in compiled {
+        if is_taken(parts.as_slice(), names) {
+            return true;
+        }
     }
-    let mut names = [directory; DEEPEST];
-    match is_any_taken_in(&mut names, compiled, directory) {
-        Some(taken) => taken,
-        None => has_deep_taker(compiled, directory),
-    }
+    false
 }
 
 /// Returns the patterns that are stored.
@@ -448,7 +337,6 @@ impl Filter {
     /// Returns true if an included pattern matches a path, or if there are none.
     #[tactic(auto, using(crate::proofs::FilterLemmas::includes_some, crate::proofs::FilterLemmas::includes_none))]
     fn includes(&self, path: &[u8]) -> bool
-        requires { IsPath path.now }
         ensures { result ≡ includes self.now.included path.now }
     {
         self.patterns().is_empty() || has_match(compiled_of(&self.included), path)
@@ -456,7 +344,6 @@ impl Filter {
 
     /// Returns true if an excluded pattern matches a path.
     fn excludes(&self, path: &[u8]) -> bool
-        requires { IsPath path.now }
         ensures { result ≡ some_match self.now.excluded path.now }
     {
         !self.excluded().is_empty() && has_match(compiled_of(&self.excluded), path)
@@ -481,7 +368,6 @@ impl Filter {
 
     /// Returns true if the filter enters a directory.
     fn enters(&self, directory: &[u8]) -> bool
-        requires { length directory.now ≤ 1024 }
         ensures { result ≡ enters self.now directory.now }
     {
         self.includes_below(directory) && !self.takes(directory)
@@ -490,7 +376,6 @@ impl Filter {
     /// Returns true if an included pattern enters a directory, or if there are none.
     #[tactic(auto, using(crate::proofs::FilterLemmas::enters_some, crate::proofs::FilterLemmas::enters_none, crate::proofs::Entering::root_enters))]
     fn includes_below(&self, directory: &[u8]) -> bool
-        requires { length directory.now ≤ 1024 }
         ensures { result ≡ includes_below self.now.included directory.now }
     {
         // The root has no names, and every pattern has a part for what is below it.
@@ -502,7 +387,6 @@ impl Filter {
 
     /// Returns true if an excluded pattern takes a directory whole.
     fn takes(&self, directory: &[u8]) -> bool
-        requires { length directory.now ≤ 1024 }
         ensures { result ≡ some_take self.now.excluded directory.now }
     {
         !self.excluded().is_empty() && has_taker(compiled_of(&self.excluded), directory)

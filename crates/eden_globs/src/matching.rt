@@ -1,130 +1,86 @@
 //! Matching the names of a path with the parts of a pattern.
 //!
-//! The time grows with the pattern's length times the path's; nothing is allocated.
+//! The time grows with the pattern's length times the path's. Nothing is allocated, and a
+//! path is not cut before it is read.
 //!
 //! There are two levels: the parts of a pattern with the names of a path, and the tokens
-//! of a part with the bytes of a name. Both are done in the same way. A row says of each
-//! suffix of the path (or name) whether it matches what is left of the pattern (or part).
-//! The row of an empty pattern is known. The row of a pattern follows from the row of
-//! what is left of it after its first part (or token). The parts before the first `**`
-//! need no row: each is compared with the one name at its position.
+//! of a part with the bytes of a name. Both are matched in the same way. A `**` (or a run)
+//! ends a stretch of parts, of which each matches one name. A stretch is tried at one name
+//! after the other. Where it matches first, that place is kept: what a later place leaves
+//! to the rest of the pattern, the `**` after the stretch may skip to. So no place is tried
+//! twice, and each part is compared with each name once at most.
 
-ghost use Rattle.std.specs.Prelude.{◌≡◌, ◌<◌, ◌≤◌, ◌+◌, ◌||◌, ◌&&◌, ◌∷◌, ℕ, List, Bool, true, false, [], None, length, take, IfSome};
-ghost use Rattle.std.specs.List.{slice_index_or};
+ghost use Rattle.std.specs.Prelude.{◌≡◌, ◌<◌, ◌≤◌, ◌&&◌, ◌∷◌, ℕ, List, Bool, true, false, [], None, length, IfSome};
 ghost use Rattle.eden_ids.specs.Paths.{components};
-ghost use Rattle.eden_globs.specs.Filters.{ends_in_any_names, parts_enter, path_matches};
-ghost use Rattle.eden_globs.specs.internal.Compiled.{AreParts, AreShort, EndsIn, IsPartOf, lent, part_matches, tokens_match};
-ghost use Rattle.eden_globs.specs.internal.Rows.{IsRow, is_wanted};
+ghost use Rattle.eden_globs.specs.Filters.{ends_in_any_names, parts_enter, path_matches, some_rest};
+ghost use Rattle.eden_globs.specs.internal.Compiled.{AreParts, EndsIn, left_length, left_of, part_matches, parts_match, tokens_match};
 
 use crate::pattern::{Part, Token, cut};
 
-/// The length of the row of the longest name.
-const CELLS: usize = 1025;
-
-/// The length of the row of the most names.
-const MOST_CELLS: usize = 1026;
-
-/// The length of a row for most names, and for most paths, made faster.
-const FEW_CELLS: usize = 64;
-
-/// Returns true if a byte is the wanted one.
+/// Matches the tokens before the next run with as many bytes of a name.
 ///
-/// Any byte is if `wanted` is `None`.
-fn is_wanted(wanted: Option<u8>, byte: u8) -> bool
-    ensures { result ≡ is_wanted wanted byte }
+/// Returns the tokens after the run and the bytes that are left. At the end of the tokens
+/// neither is left. Returns `None` if the tokens do not match the name.
+fn after_bytes<'a>(tokens: &'a [Token], name: &'a [u8]) -> Option<(&'a [Token], &'a [u8])>
+    ensures none { result ≡ None → tokens_match tokens.now name.now ≡ false }
+    ensures here { IfSome result (λ left. tokens_match tokens.now name.now ≡ some_rest (tokens_match left.0.now) left.1.now) }
+    ensures later { IfSome result (λ left. some_rest (tokens_match tokens.now) name.now ≡ some_rest (tokens_match left.0.now) left.1.now) }
+    ensures fewer { IfSome result (λ left. 0 < length tokens.now → length left.0.now < length tokens.now) }
+    ensures shorter { IfSome result (λ left. length left.1.now ≤ length name.now) }
 {
-    match wanted {
-        Some(wanted) => wanted == byte,
-        None => true,
+    for (at, token) in tokens.iter().enumerate() {
+        if token.is_run() {
+            return Some((&tokens[at + 1..], &name[at..]));
+        }
+        if at == name.len() {
+            return None;
+        }
+        if !token.takes(name[at]) {
+            return None;
+        }
     }
+    if tokens.len() != name.len() {
+        return None;
+    }
+    Some((&[], &[]))
 }
 
-/// Sets the row of an empty pattern: only the empty suffix matches.
-fn none_left(row: &mut [bool], last: usize)
-    requires { last < length row.old }
-    ensures size { length row.new ≡ length row.old }
-    ensures others { (i : ℕ) → i < last → slice_index_or row.new i false ≡ false }
-    ensures last { slice_index_or row.new last false ≡ true }
+/// Returns true if the tokens match some end of a name.
+fn is_name_end(tokens: &[Token], name: &[u8]) -> bool
+    ensures { result ≡ some_rest (tokens_match tokens.now) name.now }
 {
-    for i in 0..last {
-        row[i] = false;
+    let mut tokens = tokens;
+    let mut left = name;
+    while !tokens.is_empty() {
+        match after_bytes(tokens, left) {
+            Some((later, rest)) => {
+                tokens = later;
+                left = rest;
+            }
+            None => {
+                let Some((_, rest)) = left.split_first() else {
+                    return false;
+                };
+                left = rest;
+            }
+        }
     }
-    row[last] = true;
-}
-
-/// Sets the row of a pattern that begins with any run.
-fn any_before(row: &mut [bool], last: usize)
-    requires { last < length row.old }
-    ensures size { length row.new ≡ length row.old }
-    ensures others { (i : ℕ) → i < last → slice_index_or row.new i false ≡ (slice_index_or row.old i false || slice_index_or row.new (i + 1) false) }
-    ensures last { slice_index_or row.new last false ≡ slice_index_or row.old last false }
-{
-    let mut later = row[last];
-    for i in (0..last).rev() {
-        later = row[i] || later;
-        row[i] = later;
-    }
-}
-
-/// Sets the row of a pattern that begins with one byte.
-///
-/// The byte is `wanted`, or any byte.
-fn byte_before(row: &mut [bool], name: &[u8], wanted: Option<u8>)
-    requires { length name.now < length row.old }
-    ensures size { length row.new ≡ length row.old }
-    ensures others { (i : ℕ) → i < length name.now → slice_index_or row.new i false ≡ (is_wanted wanted (slice_index_or name.now i 0) && slice_index_or row.old (i + 1) false) }
-    ensures last { slice_index_or row.new (length name.now) false ≡ false }
-{
-    for i in 0..name.len() {
-        row[i] = is_wanted(wanted, name[i]) && row[i + 1];
-    }
-    row[name.len()] = false;
-}
-
-/// Sets the row of a pattern with a token before the rest.
-#[tactic(auto, using(crate::proofs::Rows::run_first, crate::proofs::Rows::any_first, crate::proofs::Rows::byte_first))]
-fn token_before(row: &mut [bool], name: &[u8], token: Token)
-    requires { length name.now < length row.old }
-    ensures size { length row.new ≡ length row.old }
-    ensures row { (tokens : List Token) → IsRow (tokens_match tokens) name.now row.old → IsRow (tokens_match (token ∷ tokens)) name.now row.new }
-{
-    match token {
-        Token::Run => any_before(row, name.len()),
-        Token::Any => byte_before(row, name, None),
-        Token::Byte(byte) => byte_before(row, name, Some(byte)),
-    }
-}
-
-/// Returns true if a name matches the tokens. `row` is scratch space.
-#[tactic(auto, using(crate::proofs::Rows::first_cell))]
-fn is_row_matched(row: &mut [bool], tokens: &[Token], name: &[u8]) -> bool
-    requires { length name.now < length row.old }
-    ensures { result ≡ tokens_match tokens.now name.now }
-{
-    none_left(row, name.len());
-    for at in (0..tokens.len()).rev() {
-        token_before(row, name, tokens[at]);
-    }
-    row[0]
+    true
 }
 
 /// Returns true if a name matches the tokens.
 fn has_tokens(tokens: &[Token], name: &[u8]) -> bool
-    requires { length name.now ≤ 1024 }
     ensures { result ≡ tokens_match tokens.now name.now }
 {
-    if name.len() < FEW_CELLS {
-        let mut row = [false; FEW_CELLS];
-        return is_row_matched(&mut row, tokens, name);
+    match after_bytes(tokens, name) {
+        Some((later, rest)) => is_name_end(later, rest),
+        None => false,
     }
-    let mut row = [false; CELLS];
-    is_row_matched(&mut row, tokens, name)
 }
 
 impl Part {
     /// Returns true if a name matches this part.
     fn matches(&self, name: &[u8]) -> bool
-        requires { length name.now ≤ 1024 }
         ensures { result ≡ part_matches self.now name.now }
     {
         match self {
@@ -136,93 +92,102 @@ impl Part {
         }
     }
 
-    /// Returns true if a name matches this part and `later` is true.
+    /// Returns false only if the first name of a path does not match this part.
     ///
-    /// The name is not looked at if `later` is false.
-    fn matches_before(&self, name: &[u8], later: bool) -> bool
-        requires { length name.now ≤ 1024 }
-        ensures { result ≡ (part_matches self.now name.now && later) }
+    /// So most paths are refused before the name is looked for.
+    fn may_begin(&self, path: &[u8]) -> bool
+        ensures { result ≡ false → (name : List ℕ) (names : List (List ℕ)) → components path.now ≡ name ∷ names → part_matches self.now name ≡ false }
     {
-        later && self.matches(name)
+        match self {
+            Part::Name(bytes) | Part::Prefix(bytes) => path.starts_with(bytes.as_slice()),
+            _ => true,
+        }
+    }
+
+    /// Returns false only if the last name of a path does not match this part.
+    ///
+    /// So most paths are refused before the name is looked for.
+    fn may_end(&self, path: &[u8]) -> bool
+        ensures { result ≡ false → (name : List ℕ) → EndsIn (components path.now) name → part_matches self.now name ≡ false }
+    {
+        match self {
+            Part::Name(bytes) | Part::Suffix(bytes) => path.ends_with(bytes.as_slice()),
+            _ => true,
+        }
     }
 }
 
-/// Sets the row of a pattern that begins with a one-name part.
-fn name_before(row: &mut [bool], names: &[&[u8]], part: &Part)
-    requires room { length names.now < length row.old }
-    requires short { AreShort (lent names.now) }
-    ensures size { length row.new ≡ length row.old }
-    ensures others { (i : ℕ) → i < length names.now → slice_index_or row.new i false ≡ (part_matches part.now (slice_index_or (lent names.now) i []) && slice_index_or row.old (i + 1) false) }
-    ensures last { slice_index_or row.new (length names.now) false ≡ false }
+/// Matches the parts before the next `**` with as many names of a path.
+///
+/// Returns the parts after the `**` and what is left of the path. At the end of the parts
+/// neither is left. Returns `None` if the parts do not match the path.
+fn after_names<'a>(
+    parts: &'a [Part],
+    path: Option<&'a [u8]>,
+) -> Option<(&'a [Part], Option<&'a [u8]>)>
+    ensures none { result ≡ None → parts_match parts.now (left_of path.entry) ≡ false }
+    ensures here { IfSome result (λ left. parts_match parts.now (left_of path.entry) ≡ some_rest (parts_match left.0.now) (left_of left.1)) }
+    ensures later { IfSome result (λ left. some_rest (parts_match parts.now) (left_of path.entry) ≡ some_rest (parts_match left.0.now) (left_of left.1)) }
+    ensures fewer { IfSome result (λ left. 0 < length parts.now → length left.0.now < length parts.now) }
+    ensures shorter { IfSome result (λ left. left_length left.1 ≤ left_length path.entry) }
 {
-    for i in 0..names.len() {
-        row[i] = part.matches_before(names[i], row[i + 1]);
+    let mut left = path;
+    for (at, part) in parts.iter().enumerate() {
+        if part.is_any_names() {
+            return Some((&parts[at + 1..], left));
+        }
+        let Some(names) = left else {
+            return None;
+        };
+        if !part.may_begin(names) {
+            return None;
+        }
+        let (name, rest) = cut(names);
+        if !part.matches(name) {
+            return None;
+        }
+        left = rest;
     }
-    row[names.len()] = false;
+    match left {
+        Some(_) => None,
+        None => Some((&[], None)),
+    }
 }
 
-/// Sets the row of a pattern with a part before the rest.
-fn part_before(row: &mut [bool], names: &[&[u8]], part: &Part)
-    requires room { length names.now < length row.old }
-    requires short { AreShort (lent names.now) }
-    ensures size { length row.new ≡ length row.old }
-    ensures row { (text : List ℕ) (texts : List (List ℕ)) → IsPartOf part.now text → IsRow (path_matches texts) (lent names.now) row.old → IsRow (path_matches (text ∷ texts)) (lent names.now) row.new }
+/// Returns true if the parts match some last names of a path.
+fn is_path_end(parts: &[Part], path: Option<&[u8]>) -> bool
+    ensures { result ≡ some_rest (parts_match parts.now) (left_of path.entry) }
 {
-    if part.is_any_names() {
-        any_before(row, names.len());
-    } else {
-        name_before(row, names, part);
+    let mut parts = parts;
+    let mut left = path;
+    while !parts.is_empty() {
+        match after_names(parts, left) {
+            Some((later, rest)) => {
+                parts = later;
+                left = rest;
+            }
+            None => {
+                let Some(names) = left else {
+                    return false;
+                };
+                left = cut(names).1;
+            }
+        }
     }
-}
-
-/// Returns true if a path's names match parts. `row` is scratch space.
-fn are_parts_matched(row: &mut [bool], parts: &[Part], names: &[&[u8]]) -> bool
-    requires room { length names.now < length row.old }
-    requires short { AreShort (lent names.now) }
-    ensures { (texts : List (List ℕ)) → AreParts parts.now texts → result ≡ path_matches texts (lent names.now) }
-{
-    none_left(row, names.len());
-    for at in (0..parts.len()).rev() {
-        part_before(row, names, &parts[at]);
-    }
-    row[0]
-}
-
-/// Returns true if a path's names match parts with a `**`.
-fn is_path_matched(parts: &[Part], names: &[&[u8]]) -> bool
-    requires few { length names.now ≤ 1025 }
-    requires short { AreShort (lent names.now) }
-    ensures { (texts : List (List ℕ)) → AreParts parts.now texts → result ≡ path_matches texts (lent names.now) }
-{
-    if names.len() < FEW_CELLS {
-        let mut row = [false; FEW_CELLS];
-        return are_parts_matched(&mut row, parts, names);
-    }
-    let mut row = [false; MOST_CELLS];
-    are_parts_matched(&mut row, parts, names)
+    true
 }
 
 /// Returns true if a path's names match the parts of a pattern.
 ///
-/// The time is at most a constant times the pattern's length times the path's. Does not
-/// allocate.
-pub(crate) fn is_admitted(parts: &[Part], names: &[&[u8]]) -> bool
-    requires few { length names.now ≤ 1025 }
-    requires short { AreShort (lent names.now) }
-    ensures { (texts : List (List ℕ)) → AreParts parts.now texts → result ≡ path_matches texts (lent names.now) }
+/// The root has no names, and is `None`. The time is at most a constant times the
+/// pattern's length times the path's. Does not allocate.
+fn is_admitted(parts: &[Part], path: Option<&[u8]>) -> bool
+    ensures { (texts : List (List ℕ)) → AreParts parts.now texts → result ≡ path_matches texts (left_of path.entry) }
 {
-    for (at, part) in parts.iter().enumerate() {
-        if part.is_any_names() {
-            return at + 1 == parts.len() || is_path_matched(&parts[at..], &names[at..]);
-        }
-        if at == names.len() {
-            return false;
-        }
-        if !part.matches(names[at]) {
-            return false;
-        }
+    match after_names(parts, path) {
+        Some((later, rest)) => is_path_end(later, rest),
+        None => false,
     }
-    parts.len() == names.len()
 }
 
 /// Returns true if the last of a pattern's parts is `**`.
@@ -237,25 +202,29 @@ fn ends_in_any_names(parts: &[Part]) -> bool
 
 /// Returns true if the parts end in `**` and match a directory's names.
 ///
-/// Then they match all that is below the directory. Does not allocate.
-pub(crate) fn is_taken(parts: &[Part], names: &[&[u8]]) -> bool
-    requires few { length names.now ≤ 1025 }
-    requires short { AreShort (lent names.now) }
-    ensures { (texts : List (List ℕ)) → AreParts parts.now texts → result ≡ (ends_in_any_names texts && path_matches texts (lent names.now)) }
+/// Then they match all that is below the directory. The root has no names, and is `None`.
+/// Does not allocate.
+pub(crate) fn is_taken(parts: &[Part], directory: Option<&[u8]>) -> bool
+    ensures { (texts : List (List ℕ)) → AreParts parts.now texts → result ≡ (ends_in_any_names texts && path_matches texts (left_of directory.entry)) }
 {
-    ends_in_any_names(parts) && is_admitted(parts, names)
+    ends_in_any_names(parts) && is_admitted(parts, directory)
 }
 
-/// Returns whether the parts match each path that ends in this name, if that decides it.
+/// Returns whether the parts match a path, if its last name decides it.
 ///
-/// They match none if their last is not `**` and does not match the name. They match each
-/// if it does, and before it is a `**` alone. Does not allocate.
-pub(crate) fn is_end_matched(parts: &[Part], name: &[u8]) -> Option<bool>
-    requires { length name.now ≤ 1024 }
-    ensures { IfSome result (λ matched. (texts names : List (List ℕ)) → AreParts parts.now texts → EndsIn names name.now → path_matches texts names ≡ matched) }
+/// They do not match if their last part is not `**` and does not match the name. They do if
+/// it matches, and before it is a `**` alone.
+fn is_end_matched(parts: &[Part], path: &[u8]) -> Option<bool>
+    ensures { IfSome result (λ matched. (texts : List (List ℕ)) → AreParts parts.now texts → path_matches texts (components path.now) ≡ matched) }
 {
     let (last, before) = parts.split_last()?;
-    if !last.matches(name) {
+    if last.is_any_names() {
+        return None;
+    }
+    if !last.may_end(path) {
+        return Some(false);
+    }
+    if !last.matches(last_name(path)) {
         return Some(false);
     }
     if before.len() == 1 && before[0].is_any_names() {
@@ -264,13 +233,26 @@ pub(crate) fn is_end_matched(parts: &[Part], name: &[u8]) -> Option<bool>
     None
 }
 
+/// Returns true if a path matches the parts of a pattern.
+///
+/// The time is at most a constant times the pattern's length times the path's. Does not
+/// allocate.
+pub(crate) fn is_matched(parts: &[Part], path: &[u8]) -> bool
+    ensures { (texts : List (List ℕ)) → AreParts parts.now texts → result ≡ path_matches texts (components path.now) }
+{
+    // The last name decides it for most paths and patterns, before the others are read.
+    match is_end_matched(parts, path) {
+        Some(matched) => matched,
+        None => is_admitted(parts, Some(path)),
+    }
+}
+
 /// Returns true if a pattern may match something below a directory.
 ///
 /// It may if the directory's names match the pattern's first parts and a part is left, or
 /// if they match up to a `**`. The time is at most a constant times the pattern's length
 /// times the directory's. Does not allocate.
 pub(crate) fn is_entered(parts: &[Part], directory: &[u8]) -> bool
-    requires { length directory.now ≤ 1024 }
     ensures { (texts : List (List ℕ)) → AreParts parts.now texts → result ≡ parts_enter texts (components directory.now) }
 {
     let mut left = Some(directory);
@@ -290,32 +272,9 @@ pub(crate) fn is_entered(parts: &[Part], directory: &[u8]) -> bool
     false
 }
 
-/// Cuts a path into its names, and returns their number.
-///
-/// Returns `None` if there is no room for them.
-pub(crate) fn cut_names<'a>(names: &mut [&'a [u8]], path: &'a [u8]) -> Option<usize>
-    ensures none { result ≡ None → length names.old < length (components path.now) }
-    ensures fits { IfSome result (λ count. count ≤ length names.new) }
-    ensures names { IfSome result (λ count. lent (take count names.new) ≡ components path.now) }
-{
-    let mut count = 0;
-    let mut left = Some(path);
-    while let Some(bytes) = left {
-        if count == names.len() {
-            return None;
-        }
-        let (name, behind) = cut(bytes);
-        names[count] = name;
-        count += 1;
-        left = behind;
-    }
-    Some(count)
-}
-
 /// Returns the last name of a path.
-pub(crate) fn last_name(path: &[u8]) -> &[u8]
-    ensures last { EndsIn (components path.now) result.now }
-    ensures short { length result.now ≤ length path.now }
+fn last_name(path: &[u8]) -> &[u8]
+    ensures { EndsIn (components path.now) result.now }
 {
     for at in (0..path.len()).rev() {
         if path[at] == b'/' {

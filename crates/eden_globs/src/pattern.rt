@@ -3,8 +3,7 @@
 
 ghost use Rattle.std.specs.Prelude.{◌≡◌, ◌<◌, ◌≤◌, ◌∷◌, ◌++◌, ℕ, List, Bool, [], true, false, length, map, IfOk, IfSome, MatchOption};
 ghost use Rattle.eden_ids.specs.Paths.{components};
-ghost use Rattle.eden_globs.specs.internal.Compiled.{AreParts, AreTokensOf, IsPartOf, StandsFor, is_any_names_part, part_matches, tokens_match};
-ghost use Rattle.eden_globs.specs.internal.Rows.{left_of};
+ghost use Rattle.eden_globs.specs.internal.Compiled.{AreParts, AreTokensOf, IsPartOf, StandsFor, is_any_names_part, is_run, left_length, left_of, part_matches, takes, tokens_match};
 
 use std::alloc::{AllocError, Global};
 
@@ -17,6 +16,28 @@ pub(crate) enum Token {
     Any,
     /// This byte.
     Byte(u8),
+}
+
+impl Token {
+    /// Returns true if this token stands for any run of bytes.
+    pub(crate) fn is_run(&self) -> bool
+        ensures { result ≡ is_run self.now }
+    {
+        match self {
+            Token::Run => true,
+            _ => false,
+        }
+    }
+
+    /// Returns true if this token stands for a byte, or for any run of bytes.
+    pub(crate) fn takes(&self, byte: u8) -> bool
+        ensures { result ≡ takes self.now byte }
+    {
+        match self {
+            Token::Byte(wanted) => *wanted == byte,
+            _ => true,
+        }
+    }
 }
 
 /// A part of a pattern, as it is matched.
@@ -37,8 +58,7 @@ pub(crate) enum Part {
 /// Returns the bytes before and after the first slash.
 pub(crate) fn cut(bytes: &[u8]) -> (&[u8], Option<&[u8]>)
     ensures parts { components bytes.now ≡ result.0.now ∷ left_of result.1 }
-    ensures first_short { length result.0.now ≤ length bytes.now }
-    ensures rest_short { IfSome result.1 (λ rest. length rest.now < length bytes.now) }
+    ensures shorter { left_length result.1 ≤ length bytes.now }
 {
     for at in 0..bytes.len() {
         if bytes[at] == b'/' {

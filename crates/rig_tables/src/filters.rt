@@ -1,6 +1,6 @@
 //! How long a filter takes to judge a path, by the lengths of its pattern and of the path.
 //!
-//! The patterns of two families could match in very many ways, but for a byte that no path has.
+//! The patterns of four families could match in very many ways, but for a byte that no path has.
 //! Ordinary patterns judge a deep path.
 
 use crate::clock::{now, since};
@@ -42,12 +42,34 @@ const STARS: Family<'static> = Family {
     name: 249,
 };
 
+/// Letters after a star, over long names.
+///
+/// At each place of a name almost all of them match.
+const LETTERS: Family<'static> = Family {
+    title: "letters",
+    head: b"**/*",
+    part: b"a",
+    tail: b"b*/**",
+    name: 249,
+};
+
 /// Any number of names before each name, over as many names as a path may have.
 const NAMES: Family<'static> = Family {
     title: "names",
     head: b"",
     part: b"**/a*/",
     tail: b"**/b",
+    name: 15,
+};
+
+/// Names in a row, over as many names as a path may have.
+///
+/// At each name of a path almost all of them match.
+const ROWS: Family<'static> = Family {
+    title: "rows",
+    head: b"**/",
+    part: b"a*/",
+    tail: b"b/**",
     name: 15,
 };
 
@@ -132,9 +154,9 @@ fn measure(rt: &HostRuntime, title: &str, pattern: &[u8], path: &Path) -> Result
     Ok(())
 }
 
-/// Measures both families on paths of three lengths, and the ordinary patterns on a deep one.
+/// Measures the families on paths of three lengths, and the ordinary patterns on a deep one.
 pub fn measure_filters(rt: &HostRuntime) -> Result<()> {
-    for family in [STARS, NAMES] {
+    for family in [STARS, LETTERS, NAMES, ROWS] {
         for most in [64, 128, 256] {
             let pattern = family.pattern(rt.alloc(), most)?;
             for length in [256, 512, 1024] {

@@ -1,8 +1,8 @@
 -- What compiled patterns match, compared with their texts.
-use Rattle.std.specs.Prelude.{◌≡◌, ◌≤◌, ℕ, Bool, true, false, ◌==◌, List, [], ◌∷◌, ◌++◌, length, map, nat_eq}
+use Rattle.std.specs.Prelude.{◌≡◌, ℕ, suc, Bool, true, false, ◌==◌, if◌then◌else◌, List, [], ◌∷◌, ◌++◌, length, nat_eq, Option, Some, None}
 use Rattle.std.specs.Borrow.{Bor}
 use Rattle.std.specs.Global.{Vec}
-use Rattle.std.specs.List.{AllZip, ends_with, slice_index_or, starts_with}
+use Rattle.std.specs.List.{AllZip, ends_with, starts_with}
 use Rattle.eden_ids.specs.Paths.{components}
 use Rattle.eden_ids.specs.Sameness.{same_bytes}
 use Rattle.eden_globs.specs.Filters.{first_then, is_any_names, is_none_left, name_matches, some_rest}
@@ -11,12 +11,27 @@ use Rattle.eden_globs.specs.declared.pattern.Part.TheVariants.{AnyNames, Name, P
 use Rattle.eden_globs.specs.declared.pattern.Token.{Token}
 use Rattle.eden_globs.specs.declared.pattern.Token.TheVariants.{Run, Any, Byte}
 
--- a name matches tokens, from first to last
+-- items match a pattern, from first to last; some members of it match any number of items,
+-- and each of the others takes one item
+abbrev pub items_match : {E X : Type 0} → (E → Bool) → (E → X → Bool) → List E → List X → Bool
+items_match is_any takes [] items = is_none_left items
+items_match is_any takes (e ∷ es) items =
+    if is_any e then some_rest (items_match is_any takes es) items else first_then (takes e) (items_match is_any takes es) items
+
+abbrev pub is_run : Token → Bool
+is_run Run = true
+is_run Any = false
+is_run (Byte c) = false
+
+-- a token stands for a byte; one that stands for any run stands for any byte too
+abbrev pub takes : Token → ℕ → Bool
+takes Run b = true
+takes Any b = true
+takes (Byte c) b = c == b
+
+-- a name matches tokens
 abbrev pub tokens_match : List Token → List ℕ → Bool
-tokens_match [] name = is_none_left name
-tokens_match (Run ∷ tokens) name = some_rest (tokens_match tokens) name
-tokens_match (Any ∷ tokens) name = first_then (λ b. true) (tokens_match tokens) name
-tokens_match (Byte c ∷ tokens) name = first_then (λ b. c == b) (tokens_match tokens) name
+tokens_match = items_match is_run takes
 
 -- tokens match the same names as the rest of a part
 abbrev pub AreTokensOf : List Token → Bool → List ℕ → Type 0
@@ -42,6 +57,10 @@ is_any_names_part (Prefix bytes) = false
 is_any_names_part (Suffix bytes) = false
 is_any_names_part (Tokens tokens) = false
 
+-- a path's names match parts
+abbrev pub parts_match : List Part → List (List ℕ) → Bool
+parts_match = items_match is_any_names_part part_matches
+
 -- a part matches exactly the names that its text does, and is `**` if its text is
 abbrev pub IsPartOf : Part → List ℕ → Type 0
 IsPartOf part text = (is_any_names_part part ≡ is_any_names text) × ((name : List ℕ) → part_matches part name ≡ name_matches false text name)
@@ -53,14 +72,15 @@ AreParts parts texts = AllZip IsPartOf parts texts
 abbrev pub AreCompiled : List (Vec Part) → List (List ℕ) → Type 0
 AreCompiled compiled patterns = AllZip (λ parts pattern. AreParts parts.items (components pattern)) compiled patterns
 
--- the contents of borrowed bytes
-abbrev pub lent : List (Bor (List ℕ)) → List (List ℕ)
-lent names = map (λ n. n.now) names
-
--- no name is longer than a path
-abbrev pub AreShort : List (List ℕ) → Type 0
-AreShort names = (k : ℕ) → length (slice_index_or names k []) ≤ 1024
-
 -- the name is the last of these
 abbrev pub EndsIn : List (List ℕ) → List ℕ → Type 0
 EndsIn names name = (front : List (List ℕ)) × (names ≡ front ++ name ∷ [])
+
+-- the names of what is left of a path after a slash; after its last name nothing is left
+abbrev pub left_of : Option (Bor (List ℕ)) → List (List ℕ)
+left_of None = []
+left_of (Some rest) = components rest.now
+
+abbrev pub left_length : Option (Bor (List ℕ)) → ℕ
+left_length None = 0
+left_length (Some rest) = suc (length rest.now)

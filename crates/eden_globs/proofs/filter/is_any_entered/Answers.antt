@@ -9,14 +9,14 @@ use Rattle.eden_globs.proofs.filter.is_any_entered.Goals as goal
 pub returns-then-is_entered : goal.returns-then-is_entered
 returns-then-is_entered c = λ patterns are.
     sym (any_here c.args.compiled.now patterns are (λ pattern. pattern_enters pattern c.args.directory.now) c.loop-parts.parts-index c.parts-item.result c.loop-parts-test.true c.parts-item.is
-    (λ pattern of. below_root pattern c.args.directory.now c.requires.some
+    (λ pattern of. below_root pattern c.args.directory.now c.requires
     ∙ sym (c.is_entered.ensures (components pattern) (subst (λ ps. AreParts ps (components pattern)) (sym c.as_slice.ensures.value) of)) ∙ c.if-is_entered.true))
     ∙ c.loop-parts.invariant patterns are
 
 pub loop-parts-preserved : goal.loop-parts-preserved
 loop-parts-preserved c = λ patterns are.
     any_later c.args.compiled.now patterns are (λ pattern. pattern_enters pattern c.args.directory.now) c.loop-parts.parts-index c.parts-item.result c.loop-parts-test.true c.parts-item.is
-    (λ pattern of. below_root pattern c.args.directory.now c.requires.some
+    (λ pattern of. below_root pattern c.args.directory.now c.requires
     ∙ sym (c.is_entered.ensures (components pattern) (subst (λ ps. AreParts ps (components pattern)) (sym c.as_slice.ensures.value) of)) ∙ c.if-is_entered.false)
     ∙ c.loop-parts.invariant patterns are
 

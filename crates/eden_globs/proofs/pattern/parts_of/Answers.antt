@@ -1,13 +1,11 @@
-use Rattle.std.proofs.Common.{ℕ, List, ◌∷◌, ◌++◌, ◌<◌, [], subst, sym, ap, ◌∙◌, append_assoc}
+use Rattle.std.proofs.Common.{ℕ, List, ◌∷◌, ◌++◌, ◌<◌, [], arith, subst, sym, ap, ◌∙◌, append_assoc}
 use Rattle.std.proofs.lemmas.Slice.Zip.{all_zipped_more}
 use Rattle.eden_globs.specs.declared.pattern.Part.{Part}
-use Rattle.eden_globs.specs.internal.Compiled.{AreParts, IsPartOf}
-use Rattle.eden_globs.specs.internal.Rows.{left_of}
-use Rattle.eden_globs.proofs.Splitting.{left_length, left_shorter}
+use Rattle.eden_globs.specs.internal.Compiled.{AreParts, IsPartOf, left_length, left_of}
 use Rattle.eden_globs.proofs.pattern.parts_of.Goals as goal
 
 pub loop-left-smaller : goal.loop-left-smaller
-loop-left-smaller c = subst (λ o. left_length c.cut.result.1 < left_length o) (sym c.in-Some.is) (left_shorter c.cut.result.1 c.in-Some.bytes c.cut.ensures.rest_short)
+loop-left-smaller c = subst (λ o. left_length c.cut.result.1 < left_length o) (sym c.in-Some.is) (omega (arith, c.cut.ensures.shorter))
 
 pub loop-left-preserved : goal.loop-left-preserved
 loop-left-preserved c =

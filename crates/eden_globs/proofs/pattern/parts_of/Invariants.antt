@@ -1,8 +1,6 @@
 use Rattle.std.proofs.Common.{◌≡◌, ℕ, List, ◌++◌}
 use Rattle.eden_ids.specs.Paths.{components}
-use Rattle.eden_globs.specs.internal.Compiled.{AreParts}
-use Rattle.eden_globs.specs.internal.Rows.{left_of}
-use Rattle.eden_globs.proofs.Splitting.{left_length}
+use Rattle.eden_globs.specs.internal.Compiled.{AreParts, left_length, left_of}
 use Rattle.eden_globs.proofs.pattern.parts_of.Given as goal
 
 abbrev pub invariant-loop-left : goal.invariant-loop-left
