@@ -6,7 +6,7 @@ use crate::fault::ObjectFault;
 use crate::framing::Printed;
 use crate::header::read_header;
 use eden_ids::Id;
-use eden_objects::{Importer, PutFault};
+use eden_objects::{Importer, Payload, PutFault};
 use eden_stream::{Step, Teller};
 
 /// What is filled, and the ids of the objects that were put so far.
@@ -42,7 +42,8 @@ impl<'a, I: Importer> Teller<Printed, Filling<'a, I>, ObjectFault> for Putting {
             // An item is a whole object.
             unreachable!();
         };
-        let payload = &behind[..header.size as usize];
+        // The bytes are copied: the next ones take their place in the buffer.
+        let payload = Payload::Copied(&behind[..header.size as usize]);
         match filling.into.put_object(header.object_type, payload) {
             Ok(id) if id != header.id => Step::Fault(ObjectFault::OtherId),
             Ok(id) => match filling.ids.push(id) {

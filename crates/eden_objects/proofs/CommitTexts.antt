@@ -90,7 +90,7 @@ rows_tree (top ∷ earlier) small id = elim (cases_Bool (same_id id top.id)) [
 -- ---- the files of a commit
 
 -- an object's payload, or none
-found_small : (held : List Held) → AreSmall held → (id : Id) → (length (payload_of (find id held)) ≤ 8388608) × AreBytes (payload_of (find id held))
+pub found_small : (held : List Held) → AreSmall held → (id : Id) → (length (payload_of (find id held)) ≤ 8388608) × AreBytes (payload_of (find id held))
 found_small [] small id = (omega arith, tt)
 found_small (top ∷ earlier) small id = elim (cases_Bool (same_id id top.id)) [
   | inl t ↦ subst (λ o. (length (payload_of o) ≤ 8388608) × AreBytes (payload_of o)) (sym (find-here id top earlier t)) (small.0.few, small.0.bytes)

@@ -4,9 +4,10 @@ use Rattle.std.proofs.lemmas.Bool.{cases_Bool}
 use Rattle.eden_ids.specs.declared.id.Id.{Id}
 use Rattle.eden_ids.specs.declared.content.Content.{Content}
 use Rattle.eden_objects.specs.Objects.{Held, find, payload_of}
+use Rattle.eden_git.specs.declared.object_type.ObjectType.TheVariants.{Blob}
 use Rattle.eden_git.specs.ObjectTypes.{type_text}
 use Rattle.eden_ids.specs.Sameness.{same_id}
-use Rattle.eden_objects.specs.Closed.{AllNamed}
+use Rattle.eden_objects.specs.Closed.{AllNamed, IsHeld}
 use Rattle.eden_objects.specs.Laws.{EqualObjectsAreOne, EqualFilesHaveOneBlob}
 use Rattle.eden_objects.proofs.Closed.{find-here, find-there}
 use Rattle.eden_segments.proofs.Distinct.{same_id-is}
@@ -32,6 +33,13 @@ named_id name (top ∷ earlier) named id h found = elim (cases_Bool (same_id id 
       subst (λ o. name (type_text o.object_type) o.payload ≡ o.id) same named.0
   | inr f ↦ named_id name earlier named.1 id h (sym (find-there id top earlier f) ∙ found)
 ]
+
+-- a blob that is found has the id that its bytes are given
+pub blob_id : (name : List ℕ → List ℕ → Id) (held : List Held) → AllNamed name held → (id : Id) → IsHeld held Blob id → name (type_text Blob) (payload_of (find id held)) ≡ id
+blob_id name held named id is =
+    (λ at. name (type_text (sym is.2 at)) (payload_of (is.1 at)))
+    ∙ named_id name held named id is.0 is.1
+    ∙ sym (found_id held id is.0 is.1)
 
 pub one_object : EqualObjectsAreOne
 one_object name held named i j h k first second object_type payload =

@@ -14,4 +14,6 @@ pub mod Copies
 pub mod Files
 pub mod Counts
 pub mod Passing
+pub mod Payloads
+pub mod Stats
 pub mod internal

@@ -1,6 +1,7 @@
 //! A commit of a store, found once and asked for its files.
 ghost use Rattle.std.specs.Prelude.{◌≡◌, ◌&&◌, IfOk, filter, length, map, nat_le, not};
 ghost use Rattle.std.specs.List.{list_any};
+ghost use Rattle.std.specs.Option.{option_map};
 ghost use Rattle.eden_ids.specs.FileMaps.{file_at, lent, paths};
 ghost use Rattle.eden_ids.specs.Paths.{lies_below};
 ghost use Rattle.eden_ids.specs.Texts.{AreTexts};
@@ -8,9 +9,11 @@ ghost use Rattle.eden_objects.specs.Commits.{commit_map};
 ghost use Rattle.eden_objects.specs.Counts.{capped};
 ghost use Rattle.eden_objects.specs.Files.{commit_files};
 ghost use Rattle.eden_objects.specs.Passing.{TellsPaths, is_shown, told};
+ghost use Rattle.eden_objects.specs.Stats.{stat_of};
 
 use crate::fault::NoCommit;
 use crate::passing::Passes;
+use crate::stat::Stat;
 use crate::store::Store;
 use bytes::Bytes;
 use eden_globs::Filter;
@@ -57,6 +60,16 @@ fn only_paths(alloc: Global, rows: Vec<(Path, Kind, Id)>) -> Result<Vec<Path>, N
 }
 
 impl<'a, N: Naming + Drop> Commit<'a, N> {
+    /// Returns the same commit once more, without looking its id up. Does not allocate.
+    pub fn again(&self) -> Commit<'_, N>
+        ensures { result ≡ self.now }
+    {
+        Commit {
+            store: self.store,
+            tree: self.tree,
+        }
+    }
+
     /// Returns the kind and the bytes of the file at a path.
     ///
     /// It searches one directory for each component of the path. Does not allocate.
@@ -67,6 +80,27 @@ impl<'a, N: Naming + Drop> Commit<'a, N> {
         match self.tree {
             Some(tree) => match self.store.find_below(tree, path) {
                 Some((kind, blob)) => Some((kind, self.store.blob_payload(blob))),
+                None => None,
+            },
+            None => None,
+        }
+    }
+
+    /// Returns the file at a path without its bytes.
+    ///
+    /// The id is the one in its directory: nothing is hashed. It searches as `file` does.
+    /// Does not allocate.
+    pub fn stat(&self, path: &[u8]) -> Option<Stat>
+        ensures { result ≡ option_map (stat_of N.id) (file_at self.now path.now) }
+    {
+        self.store.closed_law();
+        match self.tree {
+            Some(tree) => match self.store.find_below(tree, path) {
+                Some((kind, id)) => Some(Stat {
+                    kind,
+                    length: self.store.blob_payload(id).as_slice().len() as u32,
+                    id,
+                }),
                 None => None,
             },
             None => None,

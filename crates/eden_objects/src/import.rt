@@ -6,20 +6,22 @@ ghost use Rattle.eden_objects.specs.declared.import.ImportFault.TheVariants as f
 
 use crate::fault::PutFault;
 use crate::importer::Importer;
+use crate::payload::Payload;
 use crate::store::Store;
+use bytes::Bytes;
 use eden_git::ObjectType;
-use eden_ids::{Id, Naming, NoMemory, Sequence};
+use eden_ids::{Id, Naming, NoMemory};
 use thiserror::Error;
 
 /// An object to be imported: its type and its payload.
 ///
-/// A naming gives it its id.
+/// A naming gives it its id. Copies of an object share its payload.
 #[derive(Clone, Debug, PartialEq, Drop)]
 pub struct Object {
     /// The object's type: blob, tree or commit.
     pub object_type: ObjectType,
     /// Its payload, as the put call of its type takes it.
-    pub payload: Sequence<u8>,
+    pub payload: Bytes,
 }
 
 /// Why objects are not imported.
@@ -67,11 +69,15 @@ impl<N: Naming + Drop> Importer for Store<N> {
 
     ghost laws = { record { same = λ store. refl; again = λ store held more. refl } };
 
-    fn put_object(&mut self, object_type: ObjectType, payload: &[u8]) -> Result<Id, PutFault> {
+    fn put_object(
+        &mut self,
+        object_type: ObjectType,
+        payload: Payload<'_>,
+    ) -> Result<Id, PutFault> {
         match object_type {
-            ObjectType::Blob => self.put_blob(payload),
-            ObjectType::Tree => self.put_tree(payload),
-            ObjectType::Commit => self.put_commit(payload),
+            ObjectType::Blob => self.put_as_blob(payload),
+            ObjectType::Tree => self.put_as_tree(payload),
+            ObjectType::Commit => self.put_as_commit(payload),
         }
     }
 }
@@ -84,7 +90,8 @@ impl<N: Naming + Drop> Store<N> {
     {
         'objects: for place in 0..objects.len() {
             let object = &objects[place];
-            if let Err(fault) = self.put_object(object.object_type, object.payload.as_slice()) {
+            let payload = Payload::Shared(&object.payload);
+            if let Err(fault) = self.put_object(object.object_type, payload) {
                 return Err(refused(place as u64, fault));
             }
         }
@@ -93,8 +100,9 @@ impl<N: Naming + Drop> Store<N> {
 
     /// Imports objects: puts each of them in order, or none of them.
     ///
-    /// Each is put by the call of its type. An object that is there already is skipped. A
-    /// commit of the store keeps its files, no matter what is imported (`grown_law`).
+    /// Each is put by the call of its type. An object that is there already is skipped. The
+    /// store shares the payloads of the others, and copies none. A commit of the store keeps
+    /// its files, no matter what is imported (`grown_law`).
     /// Besides what the put calls allocate, the objects are prepared for the next copy of
     /// the store (`share`), which then takes a few pointers.
     ///

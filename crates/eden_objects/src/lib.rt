@@ -3,16 +3,17 @@
 //! `put_blob`, `put_tree` and `put_commit` add an object under the id that a naming gives
 //! it. An object refers only to objects that are in the store already, so every tree and
 //! every commit can be read whole. An object stays forever, and no other one gets its id.
-//! `import` puts several objects, all or none. `share` returns a copy of the store that
-//! shares its objects.
+//! `import` puts several objects, all or none, and shares their payloads rather than copy
+//! them. `share` returns a copy of the store that shares its objects.
 //!
 //! A commit's files are found by `lookup` and `list`, or through `Commit`, which is found
-//! once and then asked as a `FileTree`. A store keeps each tree's entries in columns
+//! once and then asked as a `FileTree`. A `Stat` is a file without its bytes. A store keeps each tree's entries in columns
 //! (`rows`), with its size and the number of its files. So trees are checked and counted
 //! without reading what is below them.
 //!
 //! ```rust
-//! use eden_ids::{GitNaming, Naming, Path, Sequence};
+//! use bytes::Bytes;
+//! use eden_ids::{GitNaming, Naming, Path};
 //! use eden_objects::{Object, Store, ObjectType};
 //!
 //! let mut store = Store::new(alloc, GitNaming);
@@ -33,7 +34,7 @@
 //! let copy = store.share()?;
 //! let mut objects = Vec::new(alloc);
 //! for bytes in [b"more\n".as_slice(), b"and more\n".as_slice()] {
-//!     let payload = Sequence::from_vec(bytes.to_vec(alloc)?);
+//!     let payload = Bytes::copy_from_slice(alloc, bytes)?;
 //!     objects.push(Object {
 //!         object_type: ObjectType::Blob,
 //!         payload,
@@ -52,7 +53,9 @@ pub use crate::import::{ImportFault, Object};
 pub use crate::importer::Importer;
 pub use crate::laws::{commit_map_law, grown_law, same_object_law, tree_law};
 pub use crate::passing::{Nothing, Passes};
+pub use crate::payload::Payload;
 pub use crate::size::Size;
+pub use crate::stat::Stat;
 pub use crate::store::Store;
 pub use eden_git::{ObjectType, RawEntry, Rows, key_order, next_entry};
 
@@ -69,8 +72,10 @@ mod list;
 mod lookups;
 mod outline;
 mod passing;
+mod payload;
 mod search;
 mod size;
+mod stat;
 mod store;
 mod stored;
 mod trail;

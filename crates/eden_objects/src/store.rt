@@ -7,11 +7,12 @@ ghost use Rattle.eden_objects.specs.Closed.{IsClosed, IsSound, AllNamed};
 ghost use Rattle.eden_objects.specs.Small.{AreSmall, IsSmall};
 ghost use Rattle.eden_objects.specs.Contents.{held_of, type_of};
 ghost use Rattle.eden_objects.specs.internal.Kept.{option_held, IfTree, IsReadFrom, Measures, OutlineFits, TellsKept};
+ghost use Rattle.eden_objects.specs.Payloads.{payload_bytes};
 
 use crate::fault::PutFault;
+use crate::payload::Payload;
 use crate::stored::{Body, Stored};
-use bytes::Bytes;
-use eden_ids::{Id, Naming, NoMemory};
+use eden_ids::{Id, Naming, NoMemory, bytes_law};
 use eden_segments::Table;
 use std::alloc::Global;
 use std::marker::Model;
@@ -77,10 +78,7 @@ impl<N: Naming + Drop> Store<N> {
     pub fn put_blob(&mut self, payload: &[u8]) -> Result<Id, PutFault>
         ensures { PutGives result self.old self.new (blob_outcome N.id payload.now self.old) }
     {
-        if payload.len() > PAYLOAD_LIMIT {
-            return Err(PutFault::TooLarge);
-        }
-        self.put(payload, Body::Blob)
+        self.put_as_blob(Payload::Copied(payload))
     }
 
     /// Puts a tree and returns its id.
@@ -113,11 +111,7 @@ impl<N: Naming + Drop> Store<N> {
     pub fn put_tree(&mut self, payload: &[u8]) -> Result<Id, PutFault>
         ensures { TreeGives result self.old self.new payload.now (tree_outcome N.id payload.now self.old) }
     {
-        if payload.len() > PAYLOAD_LIMIT {
-            return Err(PutFault::TooLarge);
-        }
-        let outline = self.outline_of(payload)?;
-        self.put(payload, Body::Tree(outline))
+        self.put_as_tree(Payload::Copied(payload))
     }
 
     /// Puts a commit and returns its id.
@@ -143,8 +137,7 @@ impl<N: Naming + Drop> Store<N> {
     pub fn put_commit(&mut self, payload: &[u8]) -> Result<Id, PutFault>
         ensures { PutGives result self.old self.new (commit_outcome N.id payload.now self.old) }
     {
-        let tree = self.tree_of_commit(payload)?;
-        self.put(payload, Body::Commit { tree })
+        self.put_as_commit(Payload::Copied(payload))
     }
 
     /// Returns the object with an id.
@@ -165,6 +158,11 @@ impl<N: Naming + Drop> Store<N> {
         ensures small { AreSmall self.now }
     {
         let _ = &self.objects;
+    }
+
+    /// Returns the naming that gives the ids. Does not allocate.
+    pub fn naming(&self) -> N {
+        self.naming
     }
 
     /// Returns the store's allocator.
@@ -216,23 +214,55 @@ impl<N: Naming + Drop> Store<N> {
     }
 
     /// Puts a new object, or finds it there.
-    fn put(&mut self, payload: &[u8], body: Body) -> Result<Id, PutFault>
-        requires sound { IsSound (type_of body) payload.now self.old }
-        requires read { IsReadFrom payload.now body }
-        requires fits { IfTree body (OutlineFits self.old payload.now) }
-        requires small { length payload.now ≤ 8388608 }
-        ensures { PutGives result self.old self.new (put_outcome (named N.id (type_of body) payload.now) self.old) }
+    fn put(&mut self, payload: Payload<'_>, body: Body) -> Result<Id, PutFault>
+        requires sound { IsSound (type_of body) (payload_bytes payload) self.old }
+        requires read { IsReadFrom (payload_bytes payload) body }
+        requires fits { IfTree body (OutlineFits self.old (payload_bytes payload)) }
+        requires small { length (payload_bytes payload) ≤ 8388608 }
+        ensures { PutGives result self.old self.new (put_outcome (named N.id (type_of body) (payload_bytes payload.entry)) self.old) }
     {
+        let bytes = payload.as_slice();
+        bytes_law(bytes);
         let object_type = body.object_type();
-        let id = self.naming.id_of(object_type.text(), payload);
+        let id = self.naming.id_of(object_type.text(), bytes);
         if id == Id::ZERO {
             return Err(PutFault::ZeroId);
         }
         if let Some(held) = self.object(id) {
-            return held.id_or_taken(id, object_type, payload);
+            return held.id_or_taken(id, object_type, bytes);
         }
-        let payload = Bytes::copy_from_slice(self.allocator(), payload)?;
+        let payload = payload.to_bytes(self.allocator())?;
         self.add(id, Stored { payload, body })?;
         Ok(id)
+    }
+
+    /// Puts a blob, and copies or shares its payload.
+    pub(crate) fn put_as_blob(&mut self, payload: Payload<'_>) -> Result<Id, PutFault>
+        ensures { PutGives result self.old self.new (blob_outcome N.id (payload_bytes payload.entry) self.old) }
+    {
+        if payload.as_slice().len() > PAYLOAD_LIMIT {
+            return Err(PutFault::TooLarge);
+        }
+        self.put(payload, Body::Blob)
+    }
+
+    /// Puts a tree, and copies or shares its payload.
+    pub(crate) fn put_as_tree(&mut self, payload: Payload<'_>) -> Result<Id, PutFault>
+        ensures { TreeGives result self.old self.new (payload_bytes payload.entry) (tree_outcome N.id (payload_bytes payload.entry) self.old) }
+    {
+        let bytes = payload.as_slice();
+        if bytes.len() > PAYLOAD_LIMIT {
+            return Err(PutFault::TooLarge);
+        }
+        let outline = self.outline_of(bytes)?;
+        self.put(payload, Body::Tree(outline))
+    }
+
+    /// Puts a commit, and copies or shares its payload.
+    pub(crate) fn put_as_commit(&mut self, payload: Payload<'_>) -> Result<Id, PutFault>
+        ensures { PutGives result self.old self.new (commit_outcome N.id (payload_bytes payload.entry) self.old) }
+    {
+        let tree = self.tree_of_commit(payload.as_slice())?;
+        self.put(payload, Body::Commit { tree })
     }
 }

@@ -1,5 +1,5 @@
-use Rattle.std.proofs.Common.{rules, ◌≡◌, ◌+◌, ◌∙◌, ◌<◌, ap, drop, get_or, length, sym}
-use Rattle.eden_objects.specs.Imports.{import_from, put_of, put_typed}
+use Rattle.std.proofs.Common.{rules, ◌≡◌, ◌+◌, ◌∙◌, ◌<◌, drop, get_or, length, sym}
+use Rattle.eden_objects.specs.Imports.{import_from, put_of}
 use Rattle.eden_objects.proofs.Importing.{first_refused, next_object}
 use Rattle.eden_objects.proofs.store.Store.put_all.Goals as goal
 
@@ -13,5 +13,5 @@ returns-in-Err-clause-refuses g c other =
     ∙ next_object named c.args.objects.now c.objects.place c.index-objects-place.result c.objects.self there is
     ∙ rw c.refused.ensures
     (first_refused c.objects.place c.in-Err.fault (put_of named c.index-objects-place.result c.objects.self) behind
-    (λ cause. ap (λ payload. put_typed named c.index-objects-place.result.object_type payload c.objects.self) (sym c.as_slice.ensures) ∙ c.in-Err.ensures.refuses cause)
+    c.in-Err.ensures.refuses
     (rw (← c.refused.ensures) other))
