@@ -58,7 +58,7 @@ checkout_kept work root next target p none =
     let sides = or_parts _ _ (sym (has-unclean work root next target p) ∙ both.0) in
     same_where next target p sides.1 ∙ sym (same_where root target p both.1) ∙ sym (same_where work root p sides.0)
 
-next_kept : (commits : Commits) (row : Row) (change : Change) (p : List ℕ) → has (path_set (named commits row change (next_row commits row change))) p ≡ false
+pub next_kept : (commits : Commits) (row : Row) (change : Change) (p : List ℕ) → has (path_set (named commits row change (next_row commits row change))) p ≡ false
     → below_any (moved_prefixes change) p ≡ false → file_at (next_row commits row change).files p ≡ file_at row.files p
 unfolding next_row next_files
 next_kept commits row (Write path kind bytes) p none outside = insert_kept row.files path (record { kind = kind; bytes = bytes }) p (unnamed p path [] none).0

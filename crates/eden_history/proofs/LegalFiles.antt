@@ -54,7 +54,7 @@ pub next_row_files : (commits : Commits) (row : Row) (change : Change) → (next
 unfolding next_row
 next_row_files commits row change = refl
 
-made_fits : (commits : Commits) (opening : Row) (past : List Event) → AreFileMaps commits → IsFileMap opening.files → AreMade commits opening past → IsFileMap (last_row opening past).files
+pub made_fits : (commits : Commits) (opening : Row) (past : List Event) → AreFileMaps commits → IsFileMap opening.files → AreMade commits opening past → IsFileMap (last_row opening past).files
 made_fits commits opening [] maps fits made = fits
 made_fits commits opening (event ∷ past) maps fits made =
     let one = is_made commits (last_row opening past) event made.0 in

@@ -15,4 +15,5 @@ pub mod Floors
 pub mod Following
 pub mod Kept
 pub mod Spelled
+pub mod Back
 pub mod Alike

@@ -162,7 +162,7 @@ next_text commits row change held allowed happens is texts =
       files = texts_next commits row change held (allowed_files commits row change allowed) is texts.files;
     }
 
-row_texts : (commits : Commits) (opening : Row) (past : List Event) → HoldTexts commits → IsRowText opening → AllByRecursion (λ event. IsChange event.change) past
+pub row_texts : (commits : Commits) (opening : Row) (past : List Event) → HoldTexts commits → IsRowText opening → AllByRecursion (λ event. IsChange event.change) past
     → AreMade commits opening past → IsRowText (last_row opening past)
 row_texts commits opening [] held texts are made = texts
 row_texts commits opening (event ∷ past) held texts are made =

@@ -2,7 +2,6 @@ pub mod Worlds
 pub mod Renames
 pub mod DirRenames
 pub mod Checkouts
-pub mod DirtyFiles
 pub mod Named
 pub mod Imports
 pub mod Outcome
@@ -13,4 +12,8 @@ pub mod Said
 pub mod Changes
 pub mod Status
 pub mod Marks
+pub mod DirtyFiles
+pub mod Described
 pub mod Rows
+pub mod Names
+pub mod Back

@@ -1,9 +1,9 @@
 -- The rows that a world has had, and the files in them.
-use Rattle.std.specs.Prelude.{◌≡◌, ◌≤◌, ◌⊎◌, ℕ, List, [], ◌∷◌, Option}
+use Rattle.std.specs.Prelude.{◌≡◌, ◌≤◌, ◌==◌, ◌&&◌, if◌then◌else◌, ◌⊎◌, ℕ, List, [], ◌∷◌, Option}
 use Rattle.eden_ids.specs.declared.content.Content.{Content}
 use Rattle.eden_ids.specs.FileMaps.{file_at}
 use Rattle.eden_history.specs.declared.position.Position.{Position}
-use Rattle.eden_history.specs.Worlds.{Row, Event, WorldState, position_of}
+use Rattle.eden_history.specs.Worlds.{Row, Event, WorldState, now, position_of}
 
 -- the row is the opening one, or the row after one of these events
 abbrev pub IsRowOf : Row → List Event → Row → Type 0
@@ -13,6 +13,16 @@ IsRowOf opening (event ∷ past) row = (row ≡ event.row) ⊎ IsRowOf opening p
 -- the world has had this row
 abbrev pub IsRow : WorldState → Row → Type 0
 IsRow world row = IsRowOf world.opening world.past row
+
+-- the row with a number of a generation, or the opening row
+abbrev pub row_at : ℕ → ℕ → Row → List Event → Row
+row_at generation number opening [] = opening
+row_at generation number opening (event ∷ past) =
+    if (event.row.generation == generation) && (event.row.sequence == number) then event.row else row_at generation number opening past
+
+-- the row with a number of the present generation
+abbrev pub row_since : WorldState → ℕ → Row
+row_since world since = row_at (now world).generation since world.opening world.past
 
 -- a row of the world has this position
 pub record IsPlace (world : WorldState) (position : Position) : Type 0 where
