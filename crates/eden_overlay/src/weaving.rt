@@ -115,17 +115,20 @@ impl Overlay {
         weave(self.allocator(), listed, &mut self.entries(), wanted)
     }
 
-    /// Returns the paths below a directory of the files that are seen over listed ones.
+    /// Returns the paths below a directory that a filter admits, of the files seen over listed ones.
     ///
-    /// The listed paths are those of the files below the overlay that are in the directory, in byte
-    /// order. `NoMemory` if an allocation fails. Only the overlay's entries below the directory are
-    /// looked at.
-    pub fn list_below_over(&self, listed: Vec<Path>, top: &Path) -> Result<Vec<Path>, NoMemory>
-        ensures { (base : FileMap) → listed.items ≡ filter (λ path. lies_below path top.now) (paths base)
-            → IfOk result (λ found. found.items ≡ filter (λ path. lies_below path top.now) (paths (over base self.now))) }
+    /// The listed paths are those of the files below the overlay that are in the directory and that
+    /// the filter admits, in byte order. `NoMemory` if an allocation fails. Only the overlay's
+    /// entries below the directory are looked at.
+    pub fn list_below_over(
+        &self,
+        listed: Vec<Path>,
+        top: &Path,
+        wanted: &Filter,
+    ) -> Result<Vec<Path>, NoMemory>
+        ensures { (base : FileMap) → listed.items ≡ filter (admits wanted.now) (filter (λ path. lies_below path top.now) (paths base))
+            → IfOk result (λ found. found.items ≡ filter (admits wanted.now) (filter (λ path. lies_below path top.now) (paths (over base self.now)))) }
     {
-        let alloc = self.allocator();
-        let wanted = Filter::all(alloc);
-        weave(alloc, listed, &mut self.below(top), &wanted)
+        weave(self.allocator(), listed, &mut self.below(top), wanted)
     }
 }

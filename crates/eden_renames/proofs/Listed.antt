@@ -99,8 +99,11 @@ one_alone test wanted p (k ∷ ks) = by (same_path p k) refl (one_alone test wan
 
 -- ---- paths alone
 
+pub file_at-at_paths : (files : FileMap) (p : List ℕ) → file_at (at_paths files) p ≡ cond (is_path p) (file_at files p) None
+file_at-at_paths files p = fin.get-retain_keys files is_path p (λ x e. ap is_path (sym (same_order p x e)))
+
 pub has-at_paths : (files : FileMap) (p : List ℕ) → fin.contains_key (at_paths files) p ≡ (is_path p && fin.contains_key files p)
-has-at_paths files p = ap is_some (fin.get-retain_keys files is_path p (λ x e. ap is_path (sym (same_order p x e)))) ∙ of_cond (is_path p) (file_at files p)
+has-at_paths files p = ap is_some (file_at-at_paths files p) ∙ of_cond (is_path p) (file_at files p)
   where
     of_cond : (b : Bool) (o : Option Content) → is_some (cond b o None) ≡ (b && is_some o)
     of_cond true o = refl
@@ -111,7 +114,7 @@ pub at_texts : (files : FileMap) → AreTexts files → ArePaths files
 at_texts files are path file at = (are path file at).0.path
 
 pub all_at_paths : (files : FileMap) → AreTexts files → at_paths files ≡ files
-all_at_paths files are = same_file_map (at_paths files) files (λ p. fin.get-retain_keys files is_path p (λ x e. ap is_path (sym (same_order p x e))) ∙ by p (file_at files p) refl)
+all_at_paths files are = same_file_map (at_paths files) files (λ p. file_at-at_paths files p ∙ by p (file_at files p) refl)
   where
     none : (b : Bool) (o : Option Content) → cond b o o ≡ o
     none true o = refl

@@ -2,9 +2,11 @@
 
 ghost use Rattle.std.specs.Prelude.{◌≡◌, ◌&&◌, IfOk, filter, not};
 ghost use Rattle.std.specs.List.{list_any};
+ghost use Rattle.std.specs.Option.{option_map};
 ghost use Rattle.eden_ids.specs.FileMaps.{file_at, lent, paths};
 ghost use Rattle.eden_ids.specs.Paths.{lies_below};
 ghost use Rattle.eden_globs.specs.Filters.{admits};
+ghost use Rattle.eden_objects.specs.Stats.{stat_of};
 ghost use Rattle.eden_renames.specs.Renames.{at_paths, seen_through};
 
 use crate::listing::{list_all, list_below};
@@ -14,7 +16,7 @@ use crate::source::{Source, joined};
 use bytes::Bytes;
 use eden_globs::Filter;
 use eden_ids::{FileTree, Kind, Naming, NoMemory, Path};
-use eden_objects::{Commit, Nothing, Passes};
+use eden_objects::{Commit, Nothing, Passes, Stat};
 use std::alloc::Global;
 use std::marker::Model;
 
@@ -60,6 +62,25 @@ pub(crate) fn file_through<'a, N: Naming + Drop>(
     }
 }
 
+/// Returns the file that is seen at a path, without its bytes.
+fn stat_through<N: Naming + Drop>(
+    commit: &Commit<'_, N>,
+    renames: &Renames,
+    path: &[u8],
+) -> Option<Stat>
+    ensures { result ≡ option_map (stat_of N.id) (file_at (seen_through commit.now renames.now) path.now) }
+{
+    commit.texts_law();
+    match renames.source(path) {
+        Source::Own => commit.stat(path),
+        Source::Nothing => None,
+        Source::Below(directory, rest) => {
+            let source = joined(directory.as_bytes(), rest)?;
+            commit.stat(source.as_slice())
+        }
+    }
+}
+
 impl<'a, N: Naming + Drop> Renamed<'a, N> {
     /// Returns a commit as it is seen through renamed directories.
     pub fn of(commit: Commit<'a, N>, renames: &'a Renames) -> Renamed<'a, N>
@@ -76,6 +97,15 @@ impl<'a, N: Naming + Drop> Renamed<'a, N> {
         ensures { lent result ≡ file_at self.now path.now }
     {
         file_through(&self.commit, self.renames, path)
+    }
+
+    /// Returns the file that is seen, without its bytes.
+    ///
+    /// It searches as `file` does, and hashes nothing. Does not allocate.
+    pub fn stat(&self, path: &[u8]) -> Option<Stat>
+        ensures { result ≡ option_map (stat_of N.id) (file_at self.now path.now) }
+    {
+        stat_through(&self.commit, self.renames, path)
     }
 
     /// Returns true if a seen file is not passed over.

@@ -15,12 +15,9 @@ use Rattle.eden_overlay.specs.Carried.{breaks, carried, carried_files}
 use Rattle.eden_history.specs.DirRenames.{breaks_a_path}
 use Rattle.eden_overlay.proofs.CarriedLemmas.{carried-below, file_at-carried}
 use Rattle.eden_overlay.proofs.Joined.{names_alone, names_joined, parts_joined}
-use Rattle.eden_ids.specs.declared.id.Id.{Id}
 use Rattle.eden_renames.specs.Renames.{Renames, dir_moved, is_path, seen_through}
 use Rattle.eden_renames.proofs.DirRenamed.{seen-dir_moved}
 use Rattle.eden_renames.proofs.Settled.{no_long}
-use Rattle.eden_objects.specs.Objects.{Held}
-use Rattle.eden_objects.specs.Files.{commit_files}
 use Rattle.eden_objects.specs.Passing.{IsWithin}
 use Rattle.eden_objects.specs.declared.size.Size.{Size}
 use Rattle.eden_objects.proofs.Fitting.{no_fault as legal}
@@ -86,11 +83,11 @@ roomy dir rest size path short flat within =
     (legal (dir ++ 47 ∷ rest) (omega (arith, long)) (omega (arith, long, short, within.0)) names (omega (arith, deep, flat, within.2)))
 
 -- what is seen beneath after one more directory was renamed
-pub moved_beneath : (held : List Held) (root : Id) (renames after : Renames) (old new : List ℕ) → AreTexts (commit_files held root) → after ≡ dir_moved renames old new
-    → seen_through (commit_files held root) after ≡ carried_files (seen_through (commit_files held root) renames) old new
-moved_beneath held root renames after old new texts is =
-    ap (seen_through (commit_files held root)) is
-    ∙ seen-dir_moved (commit_files held root) renames old new (λ p file at. (texts p file at).0.path)
+pub moved_beneath : (files : FileMap) (renames after : Renames) (old new : List ℕ) → AreTexts files → after ≡ dir_moved renames old new
+    → seen_through files after ≡ carried_files (seen_through files renames) old new
+moved_beneath files renames after old new texts is =
+    ap (seen_through files) is
+    ∙ seen-dir_moved files renames old new (λ p file at. (texts p file at).0.path)
 
 -- and so a search for what has no place decides it
 pub unplaced : (files : FileMap) (old new : List ℕ) → list_any (λ p. lies_below p old && not (is_path (carried old new p))) (paths files) ≡ breaks_a_path files old new

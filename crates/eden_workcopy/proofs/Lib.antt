@@ -4,3 +4,4 @@ pub mod Reverted
 pub mod CarriedOver
 pub mod CarriedWhole
 pub mod FlatFiles
+pub mod DirtyMarks

@@ -153,7 +153,8 @@ impl WorkCopy {
         if let Some(fault) = way_fault(&files, old, new) {
             return Err(fault);
         }
-        self.carry_dir(store, old, new)?;
+        let commit = store.commit_files(self.root);
+        self.carry_dir(store, &commit, old, new)?;
         Ok(())
     }
 

@@ -34,7 +34,7 @@ fn is_dirty<T: FileTree>(root: &T, entry: &(Path, Option<Content>)) -> bool
 
 /// Returns the paths at which an overlay shows another file than the tree below it.
 #[tactic(auto, using(eden_overlay::proofs::Touched::kept_more, eden_overlay::proofs::Touched::dirty_listed))]
-fn dirty_paths<T: FileTree>(overlay: &Overlay, root: &T) -> Result<Vec<Path>, NoMemory>
+pub(crate) fn dirty_paths<T: FileTree>(overlay: &Overlay, root: &T) -> Result<Vec<Path>, NoMemory>
     ensures { IfOk result (λ paths. paths.items ≡ listing (differ (over (T.files root.now) overlay.now) (T.files root.now))) }
 {
     let mut dirty = Vec::new(overlay.allocator());

@@ -25,6 +25,7 @@
 #![tactic(auto)]
 
 pub use crate::laws::{elsewhere_law, touched_law};
+pub use crate::marking::dirty_marks;
 pub use crate::work::WorkCopy;
 pub use crate::working::Working;
 
@@ -34,6 +35,7 @@ mod dirty;
 mod flat;
 mod laws;
 mod list;
+mod marking;
 mod renaming;
 mod reroot;
 mod revert;

@@ -33,7 +33,7 @@ impl WorkCopy {
     ///
     /// `NoMemory` if an allocation fails. Of the commit it reads the directories on the way there
     /// and those below the path.
-    pub(crate) fn list_below<N: Naming + Drop>(
+    pub fn list_below<N: Naming + Drop>(
         &self,
         store: &Store<N>,
         top: &Path,
@@ -44,6 +44,6 @@ impl WorkCopy {
         let alloc = self.overlay.allocator();
         let wanted = Filter::all(alloc);
         let listed = self.base(store).list_below(alloc, top, &wanted)?;
-        self.overlay.list_below_over(listed, top)
+        self.overlay.list_below_over(listed, top, &wanted)
     }
 }

@@ -13,18 +13,19 @@ ghost use Rattle.eden_ids.specs.Texts.{AreTexts};
 ghost use Rattle.eden_overlay.specs.Carried.{breaks, carried_files};
 ghost use Rattle.eden_history.specs.Changes.{below};
 ghost use Rattle.eden_history.specs.DirRenames.{breaks_a_path, dir_renamed, rename_dir_fault, source_fault};
-ghost use Rattle.eden_renames.specs.Renames.{is_path};
+ghost use Rattle.eden_renames.specs.Renames.{is_path, seen_through};
+ghost use Rattle.eden_objects.specs.Files.{commit_files};
 ghost use Rattle.eden_objects.specs.Passing.{IsWithin};
 ghost use Rattle.eden_overlay.specs.Layers.{IsCarried};
-ghost use Rattle.eden_workcopy.specs.internal.Carrying.{each_carried, way_fault};
+ghost use Rattle.eden_workcopy.specs.internal.Carrying.{each_carried, held_over, way_fault};
 ghost use Rattle.eden_workcopy.specs.Meanings.{base_of, means, FitsIn};
 
 use crate::work::WorkCopy;
 use eden_history::ChangeFault;
 use eden_ids::{FileTree, Naming, Path, is_path, path_law};
-use eden_objects::{Passes, Size, Store};
+use eden_objects::{Commit, Passes, Size, Store};
 use eden_overlay::CarryFault;
-use eden_renames::{Renamed, Renames, joined};
+use eden_renames::{Renames, joined};
 
 /// Returns how many components a path has.
 fn depth(path: &[u8]) -> usize
@@ -92,33 +93,40 @@ impl Passes for Placed<'_> {
     }
 }
 
-/// Returns whether a file below the old path would have no path below the new one.
-///
-/// Does not allocate. It reads no directory whose size says that there is room for its files.
-fn breaks_a_path<N: Naming + Drop>(base: &Renamed<'_, N>, old: &Path, new: &Path) -> bool
-    ensures { result ≡ breaks_a_path base.now old.now new.now }
-{
-    base.has_below_but(old, &Placed { old, new })
-}
-
 impl WorkCopy {
+    /// Returns whether a file below the old path would have no path below the new one.
+    ///
+    /// It looks below the overlay. Does not allocate. It reads no directory whose size says that
+    /// there is room for its files.
+    fn breaks_a_path<N: Naming + Drop>(
+        &self,
+        commit: &Commit<'_, N>,
+        old: &Path,
+        new: &Path,
+    ) -> bool
+        ensures { result ≡ breaks_a_path (seen_through commit.now self.now.renames) old.now new.now }
+    {
+        let base = self.base_at(commit);
+        base.has_below_but(old, &Placed { old, new })
+    }
+
     /// Moves what the overlay says below one path to below another, and what is seen below it too.
     ///
     /// The renamed directories stay as they are if no file below the overlay is at either place.
     fn carry_layers<N: Naming + Drop>(
         &mut self,
-        store: &Store<N>,
+        commit: &Commit<'_, N>,
         old: &Path,
         new: &Path,
     ) -> Result<(), CarryFault>
         ensures root { self.new.root ≡ self.old.root }
-        ensures beneath { OnOk result (base_of store.now self.new ≡ carried_files (base_of store.now self.old) old.now new.now) }
+        ensures beneath { OnOk result (seen_through commit.now self.new.renames ≡ carried_files (seen_through commit.now self.old.renames) old.now new.now) }
         ensures over { OnOk result (IsCarried self.old.overlay old.now new.now self.new.overlay) }
         ensures accepts { OnOk result ((p : List ℕ) → IsSome (fin.get self.old.overlay p) → lies_below p old.now ≡ true → breaks old.now new.now p ≡ false) }
         ensures same { OnErr result (self.new ≡ self.old) }
     {
-        store.commit_files(self.root).texts_law();
-        let base = self.base(store);
+        commit.texts_law();
+        let base = self.base_at(commit);
         if !base.has_file_below(old) && !base.has_file_below(new) {
             self.overlay.carry(old, new)?;
             return Ok(());
@@ -139,22 +147,22 @@ impl WorkCopy {
     /// for its files at the new path.
     fn carry_whole<N: Naming + Drop>(
         &mut self,
-        store: &Store<N>,
+        commit: &Commit<'_, N>,
         old: &Path,
         new: &Path,
     ) -> Result<(), CarryFault>
-        requires { FitsIn store.now self.old }
+        requires { AreTexts (seen_through commit.now self.old.renames) }
         ensures root { self.new.root ≡ self.old.root }
-        ensures below { OnOk result (AreTexts (base_of store.now self.new)) }
-        ensures accepts { OnOk result (breaks_a_path (means store.now self.old) old.now new.now ≡ false) }
-        ensures files { OnOk result (means store.now self.new ≡ carried_files (means store.now self.old) old.now new.now) }
+        ensures below { OnOk result (AreTexts (seen_through commit.now self.new.renames)) }
+        ensures accepts { OnOk result (breaks_a_path (held_over commit.now self.old) old.now new.now ≡ false) }
+        ensures files { OnOk result (held_over commit.now self.new ≡ carried_files (held_over commit.now self.old) old.now new.now) }
         ensures same { OnErr result (self.new ≡ self.old) }
     {
         path_law(new);
-        if breaks_a_path(&self.base(store), old, new) {
+        if self.breaks_a_path(commit, old, new) {
             return Err(CarryFault::PathTooLong);
         }
-        self.carry_layers(store, old, new)?;
+        self.carry_layers(commit, old, new)?;
         Ok(())
     }
 
@@ -189,14 +197,16 @@ impl WorkCopy {
     ///
     /// `PathTooLong` if one would be at what is not a path, and `NoMemory` if an allocation fails.
     /// Both change nothing. Nothing else refuses the rename. If only a hidden file would have no
-    /// path, each file that is seen is moved by itself.
+    /// path, each file that is seen is moved by itself. The commit is the root's, found once.
     pub(crate) fn carry_dir<N: Naming + Drop>(
         &mut self,
         store: &Store<N>,
+        commit: &Commit<'_, N>,
         old: &Path,
         new: &Path,
     ) -> Result<(), ChangeFault>
         requires fits { FitsIn store.now self.old }
+        requires commit { commit.now ≡ commit_files store.now self.old.root }
         requires source { source_fault (means store.now self.old) old.now ≡ None }
         requires distinct { same_bytes old.now new.now ≡ false }
         requires way { way_fault (means store.now self.old) old.now new.now ≡ None }
@@ -208,7 +218,7 @@ impl WorkCopy {
             → rename_dir_fault (means store.now self.old) old.now new.now ≡ Some fault) }
         ensures same { OnErr result (self.new ≡ self.old) }
     {
-        match self.carry_whole(store, old, new) {
+        match self.carry_whole(commit, old, new) {
             Ok(()) => Ok(()),
             Err(CarryFault::NoMemory) => Err(ChangeFault::NoMemory),
             Err(CarryFault::PathTooLong) => match self.carry_files(store, old, new) {

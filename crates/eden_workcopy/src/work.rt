@@ -67,6 +67,13 @@ impl WorkCopy {
         &self.renames
     }
 
+    /// Returns what was written, removed or renamed: the overlay.
+    pub fn overlay(&self) -> &Overlay
+        ensures { result.now ≡ self.now.overlay }
+    {
+        &self.overlay
+    }
+
     /// Returns the kind and the bytes of the file at a path.
     ///
     /// `None` if there is no file, for whatever reason: `read` says why. Does not allocate.

@@ -4,13 +4,14 @@ ghost use Rattle.std.specs.Prelude.{◌≡◌, Some, None, IfOk, IfErr};
 ghost use Rattle.eden_ids.specs.FileMaps.{file_at, has_file_below, lent};
 ghost use Rattle.eden_history.specs.Renames.{absent_fault};
 ghost use Rattle.eden_overlay.specs.Layers.{over};
+ghost use Rattle.eden_renames.specs.Renames.{seen_through};
 ghost use Rattle.eden_workcopy.specs.Meanings.{base_of, means};
 
 use crate::work::WorkCopy;
 use bytes::Bytes;
 use eden_history::{ChangeFault, place_fault};
 use eden_ids::{Content, FileTree, Kind, Naming, NoMemory, Path};
-use eden_objects::{Passes, Size, Store};
+use eden_objects::{Commit, Passes, Size, Store};
 use eden_overlay::Overlay;
 use eden_renames::Renamed;
 use std::marker::Model;
@@ -153,6 +154,18 @@ impl<'a, N: Naming + Drop> FileTree for Working<'a, N> {
 }
 
 impl WorkCopy {
+    /// Returns the files below the overlay as a tree, over this commit. Does not allocate.
+    ///
+    /// The commit is that of the root, if it is to be what the working copy holds.
+    pub(crate) fn base_at<'a, N: Naming + Drop>(
+        &'a self,
+        commit: &'a Commit<'_, N>,
+    ) -> Renamed<'a, N>
+        ensures { result ≡ seen_through commit.now self.now.renames }
+    {
+        Renamed::of(commit.again(), &self.renames)
+    }
+
     /// Returns the files below the overlay as a tree. Does not allocate.
     pub(crate) fn base<'a, N: Naming + Drop>(&'a self, store: &'a Store<N>) -> Renamed<'a, N>
         ensures { result ≡ base_of store.now self.now }
