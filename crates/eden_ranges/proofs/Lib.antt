@@ -1,6 +1,8 @@
 mod Lists
 mod Said
+mod Heads
 mod OneAPath
+mod Merged
 pub mod Only
 pub mod Columns
 mod Pairs
@@ -8,7 +10,9 @@ mod TurnedRound
 pub mod Newest
 mod Ends
 mod Numbered
+mod Lent
 mod Along
 mod Named
 mod SinceWorld
 pub mod Bridge
+pub mod WayBack

@@ -13,13 +13,13 @@ use Rattle.eden_history.specs.Worlds.{Row, Event, Commits, last_row}
 use Rattle.eden_history.specs.Named.{moved_prefixes}
 use Rattle.eden_history.specs.Outcome.{next_row}
 use Rattle.eden_history.specs.Legal.{AreMade}
+use Rattle.eden_history.specs.Rows.{row_at}
 use Rattle.eden_history.specs.Changes.{events_in, is_in_range}
-use Rattle.eden_history.specs.Recorded.{delta_of, files_by, moves_root, start, starts, touches_of}
+use Rattle.eden_history.specs.Recorded.{delta_of, files_by, moves_root, root_delta, start, starts, touches_of}
 use Rattle.eden_history.proofs.Recording.{prefixes-by, root-prefixes}
 use Rattle.eden_history.proofs.Steps.{Makes, is_made, plain-unclean}
 use Rattle.eden_history.proofs.Following.{IsNotAfter}
 use Rattle.eden_ranges.specs.Gathered.{left_by, prefixes_in, roots_by, unclean_in}
-use Rattle.eden_ranges.specs.WorldRanges.{row_at}
 use Rattle.eden_ranges.proofs.Numbered.{none_counted}
 use Rattle.eden_ranges.proofs.Along.{along, newer, none_newer, one_newer}
 use Rattle.eden_ranges.proofs.Named.{plain_root}
@@ -28,10 +28,10 @@ use Rattle.std.proofs.Math.Bool.{and-false}
 -- ---- the two kinds of events
 
 delta_file : (before : Row) (event : Event) → moves_root event.change ≡ false → delta_of before event ≡ File (files_by event.change (touches_of before event))
-delta_file before event e = ap (λ b. if b then Root before.root event.unclean else File (files_by event.change (touches_of before event))) e
+delta_file before event e = ap (λ b. if b then root_delta before event else File (files_by event.change (touches_of before event))) e
 
-delta_root : (before : Row) (event : Event) → moves_root event.change ≡ true → delta_of before event ≡ Root before.root event.unclean
-delta_root before event e = ap (λ b. if b then Root before.root event.unclean else File (files_by event.change (touches_of before event))) e
+delta_root : (before : Row) (event : Event) → moves_root event.change ≡ true → delta_of before event ≡ root_delta before event
+delta_root before event e = ap (λ b. if b then root_delta before event else File (files_by event.change (touches_of before event))) e
 
 -- one more event is the newest of those that count
 counted_more : (generation since until : ℕ) (event : Event) (past : List Event) → is_in_range generation since until event.row ≡ true
@@ -98,12 +98,12 @@ lefts-file : (files : FilesChanged) (ds : List Delta) → left_by (File files �
 unfolding left_by
 lefts-file files ds = refl
 
-lefts-root : (left : Id) (unclean : List (List ℕ)) (ds : List Delta) → left_by (Root left unclean ∷ ds) ≡ left_by ds ++ left ∷ []
+lefts-root : (before : Row) (event : Event) (ds : List Delta) → left_by (root_delta before event ∷ ds) ≡ left_by ds ++ before.root ∷ []
 unfolding left_by
-lefts-root left unclean ds = refl
+lefts-root before event ds = refl
 
 -- the last row has the number
-row_here : (generation since : ℕ) (opening : Row) (past : List Event) → (last_row opening past).generation ≡ generation → (last_row opening past).sequence ≡ since
+pub row_here : (generation since : ℕ) (opening : Row) (past : List Event) → (last_row opening past).generation ≡ generation → (last_row opening past).sequence ≡ since
     → row_at generation since opening past ≡ last_row opening past
 row_here generation since opening [] g at = refl
 row_here generation since opening (event ∷ past) g at =
@@ -111,7 +111,7 @@ row_here generation since opening (event ∷ past) g at =
     ∙ ap (λ b. if b then event.row else row_at generation since opening past) (eq-eqb event.row.sequence since at)
 
 -- a later row has not
-row_before : (generation since : ℕ) (opening : Row) (event : Event) (past : List Event) → since < event.row.sequence
+pub row_before : (generation since : ℕ) (opening : Row) (event : Event) (past : List Event) → since < event.row.sequence
     → row_at generation since opening (event ∷ past) ≡ row_at generation since opening past
 row_before generation since opening event past lt =
     ap (λ b. if (event.row.generation == generation) && b then event.row else row_at generation since opening past) (ne_eqb event.row.sequence since (λ e. omega arith))
@@ -158,7 +158,7 @@ more_roots commits generation since until opening event past made plain counts l
         ≡ (row_at generation since opening (event ∷ past)).root ∷ roots (reverse (events_in generation since until (event ∷ past)))
     by true e =
         ap (roots_by event.row.root) (next ∙ ap (λ d. d ∷ newer opening past since) (delta_root (last_row opening past) event e))
-        ∙ ap (λ ids. ids ++ event.row.root ∷ []) (lefts-root (last_row opening past).root event.unclean (newer opening past since))
+        ∙ ap (λ ids. ids ++ event.row.root ∷ []) (lefts-root (last_row opening past) event (newer opening past since))
         ∙ ap (λ ids. ids ++ event.row.root ∷ []) older
         ∙ sym (λ i. (before i).root ∷ parted true e i)
     by false e =

@@ -50,7 +50,7 @@ CommitsAreComparable = (commits : Commits) (roots : List Id) → are_commits com
 abbrev pub touches_at : List ℕ → List Delta → List FileTouch
 touches_at path [] = []
 touches_at path (File files ∷ older) = touches_at path older ++ filter (λ touch. same_path path touch.path) (touches_of files)
-touches_at path (Root left unclean ∷ older) = touches_at path older
+touches_at path (Root left unclean before ∷ older) = touches_at path older
 
 abbrev pub last_of : FileTouch → List FileTouch → FileTouch
 last_of first [] = first

@@ -1,5 +1,6 @@
 -- Definitions that the code alone uses.
 pub mod Wanted
 pub mod Mentions
+pub mod Heads
 pub mod Gathering
 pub mod Pairs

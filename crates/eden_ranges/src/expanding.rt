@@ -6,7 +6,7 @@ ghost use Rattle.eden_ids.specs.Sameness.{same_id};
 ghost use Rattle.eden_objects.specs.Commits.{commit_map};
 ghost use Rattle.eden_history.specs.Named.{commits_differ};
 ghost use Rattle.eden_history.specs.Marks.{admitted, mark_said};
-ghost use Rattle.eden_history.specs.Said.{by_touch};
+ghost use Rattle.eden_history.specs.Said.{by_root, by_touch};
 ghost use Rattle.eden_ranges.specs.Expanded.{are_comparable, differing, expanded, is_comparable};
 ghost use Rattle.eden_ranges.specs.internal.Mentions.{Ascend};
 ghost use Rattle.eden_ranges.specs.internal.Pairs.{AreCovered, has_pair};
@@ -23,6 +23,19 @@ use eden_treediff::diff_admitted;
 use indexmap::IndexSet;
 use std::alloc::Global;
 
+/// Puts paths in byte order, each once.
+fn put_in_order(paths: &mut Vec<Path>) -> Result<(), NoMemory>
+    ensures same { OnOk result (path_set paths.new.items ≡ path_set paths.old.items) }
+    ensures ascend { OnOk result (Ascend (map by_root paths.new.items)) }
+{
+    if paths.as_slice().is_sorted_by(|left, right| left < right) {
+        return Ok(());
+    }
+    paths.sort()?;
+    paths.dedup();
+    Ok(())
+}
+
 /// Makes room for more paths.
 ///
 /// If it has to grow, duplicate paths are removed first. So the room is at most a few
@@ -33,8 +46,7 @@ fn make_room(paths: &mut Vec<Path>, more: usize) -> Result<(), NoMemory>
     if more <= paths.capacity().saturating_sub(paths.len()) {
         return Ok(());
     }
-    paths.sort()?;
-    paths.dedup();
+    put_in_order(paths)?;
     Ok(paths.reserve(more.max(paths.len()))?)
 }
 
@@ -102,15 +114,16 @@ fn add_once<N: Naming + Drop>(
 
 /// Returns the admitted paths at which neighbouring roots differ.
 ///
-/// The paths of each pair ascend; a path may occur again for another pair. Each pair is
-/// compared once, no matter how often the two are neighbours.
-fn differing_paths<N: Naming + Drop>(
+/// They ascend, each once. Each pair is compared once, no matter how often the two are
+/// neighbours.
+pub(crate) fn differing_paths<N: Naming + Drop>(
     alloc: Global,
     store: &Store<N>,
     roots: &IdColumn,
     wanted: &Filter,
 ) -> Result<Vec<Path>, CommitFault>
     ensures paths { IfOk result (λ paths. path_set paths.items ≡ only wanted.now (differing (commit_map store.now) roots.now)) }
+    ensures ascend { IfOk result (λ paths. Ascend (map by_root paths.items)) }
     ensures compared { OnOk result (are_comparable (commit_map store.now) roots.now ≡ true) }
     ensures fault { IfErr result (λ fault. fault ≢ CommitFault.NoMemory → are_comparable (commit_map store.now) roots.now ≡ false) }
 {
@@ -131,6 +144,7 @@ fn differing_paths<N: Naming + Drop>(
         };
         add_once(alloc, store, &mut paths, &mut pairs, left, reached, wanted)?;
     }
+    put_in_order(&mut paths)?;
     Ok(paths)
 }
 
@@ -161,8 +175,7 @@ pub fn expand_admitted<N: Naming + Drop>(
     let mut mentions = Mentions::new(alloc);
     mentions.add_wanted_touches(range.changes.as_slice(), wanted)?;
     mentions.add_wanted_roots(range.unclean.as_slice(), wanted)?;
-    mentions.add_roots(differing.as_slice())?;
-    Ok(mentions.into_marked(alloc)?)
+    Ok(mentions.into_marked(alloc, differing)?)
 }
 
 /// Returns a change of a file as a marked path.

@@ -3,7 +3,6 @@
 ghost use Rattle.eden_ranges.specs.Laws.{ChangesAreEnds, CommitsAreComparable, HeadsAreNow, RangesAreSince, RangesAreTheWorlds, RefusalsAreTheWorlds};
 
 /// States what a journal says of the world that it records.
-#[tactic(auto, using(crate::proofs::Bridge::heads_are_now, crate::proofs::Bridge::refusals_are_the_worlds, crate::proofs::Bridge::ranges_are_since, crate::proofs::Bridge::ranges_are_the_worlds))]
 pub fn range_law()
     // The head's position is the world's present one.
     ensures head { HeadsAreNow }

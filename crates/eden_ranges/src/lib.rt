@@ -11,6 +11,9 @@
 //! does so for the paths that a filter admits alone, and `expand_owned` moves the paths
 //! of a range that is no longer needed.
 //!
+//! `owe` takes what a range is made of and gathers nothing. `Due::expand_admitted` makes the
+//! marked paths of that at once, without a range.
+//!
 //! ```rust
 //! use eden_history::Position;
 //! use eden_ids::{GitNaming, Id, Path};
@@ -40,4 +43,7 @@ mod expanding;
 mod gathering;
 mod laws;
 mod mentions;
+mod merging;
+mod owed;
 mod ranges;
+mod sorting;

@@ -1,8 +1,10 @@
-use Rattle.std.proofs.Common.{◌≡◌, ◌-◌, ◌+◌, rules, Some, None, ap, subst, sym, arith}
+use Rattle.std.proofs.Common.{◌≡◌, ◌-◌, ◌+◌, rules, map, Some, None, ap, subst, sym, ◌∙◌, arith}
 use Rattle.std.specs.List.{slice_get}
 use Rattle.std.proofs.lemmas.Result.{err_from_is_err_and}
 use Rattle.eden_ids.specs.FileMaps.{path_set}
 use Rattle.eden_objects.specs.Commits.{commit_map}
+use Rattle.eden_history.specs.Said.{by_root}
+use Rattle.eden_ranges.specs.internal.Mentions.{Ascend}
 use Rattle.eden_ranges.proofs.Columns.{Compared, never_past, comparing_begins, comparing_goes_on, comparing_ends, comparing_fails, comparing_none}
 use Rattle.eden_ranges.proofs.Pairs.{covered_none}
 use Rattle.eden_ranges.proofs.expanding.differing_paths.Goals.{else-loop-place-test, then-loop-place-test+in_default, then-loop-place-test+in-Some+in_default-get}
@@ -35,7 +37,7 @@ returns-in_err-add_once-clause-fault g c =
     rw (p.1, p.2) (λ other. comparing_fails (commit_map c.args.store.now) c.args.roots.now (c.loop-place.place - 1) c.in-Some.left c.in-Some-get.reached at next (c.in_err-add_once.ensures.fault other))
 
 pub returns-clause-paths : goal.returns-clause-paths
-returns-clause-paths g c = elim c.loop-place-test.branch [
+returns-clause-paths g c = c.in_ok-put_in_order.ensures.same ∙ elim c.loop-place-test.branch [
   | else-loop-place-test w ↦ (comparing_ends c.args.wanted.now (commit_map c.args.store.now) c.args.roots.now c.loop-place.place (path_set c.loop-place.paths.items) (omega arith) c.loop-place.invariant.0).0
   | then-loop-place-test+in_default w ↦
       let none : slice_get c.args.roots.now (c.loop-place.place - 1) ≡ None = search rules in
@@ -60,3 +62,6 @@ pub returns-then-place-eq0-clause-paths : goal.returns-then-place-eq0-clause-pat
 returns-then-place-eq0-clause-paths g c =
     let n = c.len-place.ensures in
     comparing_none c.args.wanted.now (commit_map c.args.store.now) c.args.roots.now _ (omega arith) (ap path_set c.new-paths.ensures.items)
+
+pub returns-then-place-eq0-clause-ascend : goal.returns-then-place-eq0-clause-ascend
+returns-then-place-eq0-clause-ascend g c = subst (λ ps. Ascend (map by_root ps)) (sym c.new-paths.ensures.items) tt
