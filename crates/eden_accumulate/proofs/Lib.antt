@@ -4,4 +4,6 @@ pub mod Changing
 pub mod Rooting
 pub mod Importing
 pub mod Seen
+pub mod Describing
 pub mod Ranging
+pub mod Naming

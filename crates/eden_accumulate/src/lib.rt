@@ -43,6 +43,7 @@ mod import;
 mod importer;
 mod laws;
 mod mount;
+mod names;
 mod range;
 mod root;
 mod snapshot;

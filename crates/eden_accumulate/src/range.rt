@@ -15,8 +15,7 @@ use eden_globs::Filter;
 use eden_history::{Marked, Position, SinceFault};
 use eden_ids::{Naming, Path, Sequence};
 use eden_objects::CommitFault;
-use eden_ranges::{Due, Range, expand_owned, owe};
-use std::mem;
+use eden_ranges::{Due, Range, owe};
 
 /// What changed since a position, path by path.
 #[derive(Drop)]
@@ -123,16 +122,14 @@ impl<N: Naming + Drop> Mount<N> {
             → changes.prefixes ≡ prefixes_since world position.now.sequence) }
         ensures refuses { IfErr result (λ fault. fault ≢ SinceFault.NoMemory → IsStatus self.now position.now (Some fault)) }
     {
-        let mut range = match self.range_since(position) {
-            Ok(range) => range,
+        let due = match self.owe_since(position) {
+            Ok(due) => due,
             Err(fault) => return Err(fault),
         };
-        let to = range.to;
         let alloc = self.store.allocator();
-        let prefixes = mem::replace(&mut range.prefixes, Sequence::new(alloc));
-        match expand_owned(alloc, &self.store, range, &Filter::all(alloc)) {
-            Ok(marked) => Ok(Changes {
-                to,
+        match due.expand_admitted(alloc, &self.store, &Filter::all(alloc)) {
+            Ok((marked, prefixes)) => Ok(Changes {
+                to: due.to(),
                 marked,
                 prefixes,
             }),

@@ -11,7 +11,7 @@ ghost use Rattle.eden_accumulate.specs.internal.Refusals.{IsRefusal};
 
 use crate::mount::Mount;
 use eden_checkout::plan;
-use eden_history::{ChangeFault, Mode, Position};
+use eden_history::{ChangeFault, Mode, Position, presence_at};
 use eden_ids::{Id, Naming, Path, Sequence, id_law};
 use eden_objects::CommitFault;
 
@@ -135,9 +135,12 @@ impl<N: Naming + Drop> Mount<N> {
                 conflicts: planned.conflicts,
             });
         }
+        let files = self.work.over(&self.store);
+        let before = presence_at(alloc, &files, planned.unclean.as_slice())?;
         self.journal.reserve()?;
         self.work = planned.next;
-        self.journal.append_root(commit, planned.unclean);
+        self.journal
+            .append_checkout(commit, planned.unclean, before);
         Ok(Checked {
             position: self.position(),
             conflicts: planned.conflicts,
