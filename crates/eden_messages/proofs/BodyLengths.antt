@@ -18,7 +18,7 @@ use Rattle.eden_messages.specs.Spells.{position_bytes, text_bytes, marked_bytes,
 use Rattle.eden_stream.specs.Frames.{body_limit}
 
 -- a list whose bytes are too many up to a place has too many
-front_small : {A : Type 0} (bytes : A → List ℕ) (i : ℕ) (list : List A) (x : A) → i < length list → x ≡ get_or list i x
+pub front_small : {A : Type 0} (bytes : A → List ℕ) (i : ℕ) (list : List A) (x : A) → i < length list → x ≡ get_or list i x
     → 16777216 < length (flat_map bytes (take i list)) + length (bytes x) → if_small (length (flat_map bytes list)) ≡ None
 front_small bytes i list x more is long =
     let all = length-flat_map-take bytes list i x more in

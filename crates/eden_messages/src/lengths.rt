@@ -53,11 +53,11 @@ fn len_of_paths(paths: &[Path]) -> Option<usize>
     Some(len)
 }
 
-/// Returns the length of marked paths, without their count.
+/// Returns the length of marked paths in a body, without their count.
 ///
-/// It is `None` if a body cannot be that long.
+/// It is `None` if a body cannot be that long. Does not allocate.
 #[tactic(auto, using(crate::proofs::BodyLengths::list_front_small))]
-fn len_of_list(list: &[Marked]) -> Option<usize>
+pub fn len_of_marked(list: &[Marked]) -> Option<usize>
     ensures { result ≡ if_small (length (flat_map marked_bytes list.now)) }
 {
     let mut len = 0;
@@ -113,8 +113,10 @@ fn len_of_excluded(filter: &Filter) -> usize
     2 + len_of_patterns(patterns)
 }
 
-/// Returns the length of a filter: of what it excludes and of what it includes.
-fn len_of_filter(filter: &Filter) -> usize
+/// Returns the length of a filter in a body: of what it excludes and of what it includes.
+///
+/// Does not allocate.
+pub fn len_of_filter(filter: &Filter) -> usize
     ensures len { result ≡ length (excluded_bytes filter.now.excluded) + length (filter_bytes filter.now.included) }
     ensures few { result ≤ 16516 }
 {
@@ -170,7 +172,7 @@ impl Reply {
             } => {
                 let front = 34 + len_of_position(target);
                 match (
-                    len_of_list(marked.as_slice()),
+                    len_of_marked(marked.as_slice()),
                     len_of_paths(prefixes.as_slice()),
                 ) {
                     (Some(list), Some(directories)) if front + list + directories <= BODY_LIMIT => {

@@ -29,11 +29,12 @@
 //! ```
 #![tactic(auto)]
 
+pub use crate::lengths::{len_of_filter, len_of_marked};
 pub use crate::message::{Cause, Query, Reply, Request};
 pub use crate::outcome::Outcome;
 pub use crate::replies::admitted;
 pub use crate::spelling_law::{one_spelling_law, reply_spelling_law};
-pub use crate::text_laws::request_text_law;
+pub use crate::text_laws::{filter_law, position_law, query_law, request_text_law};
 
 mod lengths;
 mod message;

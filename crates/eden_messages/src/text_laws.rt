@@ -12,12 +12,12 @@ use eden_history::Position;
 use eden_ids::{bytes_law, id_law, path_law};
 
 /// States that a query's numbers have eight bytes.
-fn query_law(query: Query)
+pub fn query_law(query: Query)
     ensures { IsQuery query }
 {}
 
 /// States that a position's numbers have eight bytes, and its root twenty.
-fn position_law(position: Position)
+pub fn position_law(position: Position)
     ensures { IsPosition position }
 {
     id_law(position.root);
@@ -33,7 +33,7 @@ fn patterns_law(patterns: &[Vec<u8>])
 }
 
 /// States that a filter's patterns are valid, their bytes below 256.
-fn filter_law(filter: &Filter)
+pub fn filter_law(filter: &Filter)
     ensures { IsFilterText filter.now }
 {
     patterns_law(filter.patterns());

@@ -1,5 +1,5 @@
 -- A body is read as what is asked exactly if it spells it.
-use Rattle.std.proofs.Common.{◌≡◌, ℕ, ◌<◌, ◌≤◌, ◌^◌, true, cond, eqb, List, ◌∷◌, ◌++◌, length, Result, Ok, Err, refl, sym, ap, subst, ◌∙◌, inl, inr, arith, append_assoc, length-append}
+use Rattle.std.proofs.Common.{◌≡◌, ℕ, ◌<◌, ◌≤◌, ◌^◌, true, cond, eqb, List, ◌∷◌, ◌++◌, length, Result, Ok, Err, refl, sym, ap, subst, ◌∙◌, inl, inr, arith, length-append}
 use Rattle.std.specs.Prelude.{IfOk, OnOk}
 use Rattle.std.specs.Int.{w32, to_be_bytes}
 use Rattle.std.proofs.lemmas.Bool.{eqb-true}
@@ -11,11 +11,11 @@ use Rattle.eden_wire.specs.declared.question.Question.{Question}
 use Rattle.eden_wire.specs.Asked.{SpellsAsked, asked_bytes, patience_bytes, read_asked}
 use Rattle.eden_wire.specs.Formats.{◌>>=◌, number_at}
 use Rattle.eden_wire.specs.Reading.{Gives, tag_at}
-use Rattle.eden_wire.specs.Stats.{SpellsQuestion, question_bytes, read_question, request_of}
+use Rattle.eden_wire.specs.Questions.{SpellsQuestion, question_bytes, read_question, request_of}
 use Rattle.eden_wire.proofs.Numbers.{IsBytes, along, bind_ok, number_again, number_takes, wide32}
 use Rattle.eden_wire.proofs.TagLaws.{chosen}
 use Rattle.eden_wire.proofs.BodyLaws.{HasTag, tag_again, tag_takes}
-use Rattle.eden_wire.proofs.StatLaws.{question_asked, question_read, question_spelled}
+use Rattle.eden_wire.proofs.QuestionLaws.{question_asked, question_read, question_spelled}
 
 -- a question after these milliseconds
 abbrev behind : ℕ → Question → Asked
@@ -99,13 +99,8 @@ spells asked fields few limit =
       | inr some ↦ record { fields = fields; patience = few; bytes = inr (sym some.1); limit = limit }
     ]
 
--- a length and the body
-pub framed : {X E : Type 0} (result : Result X E) (asked : Asked) (len : ℕ) (old mid new : List ℕ) → IsRequest (request_of asked.question) → asked.patience < 2 ^ 32
-    → len ≡ length (asked_bytes asked) → len ≤ 17574 → mid ≡ old ++ to_be_bytes w32 len → OnOk result (new ≡ mid ++ asked_bytes asked)
+pub spells_framed : {X E : Type 0} (result : Result X E) (asked : Asked) (old new : List ℕ) → IsRequest (request_of asked.question) → asked.patience < 2 ^ 32
+    → length (asked_bytes asked) ≤ 16777216 → OnOk result (new ≡ old ++ frame (asked_bytes asked))
     → OnOk result ((body : List ℕ) × SpellsAsked body asked × (new ≡ old ++ frame body))
-unfolding frame
-framed (Ok x) asked len old mid new fields few is short head told =
-    let body = asked_bytes asked in
-    let front : mid ≡ old ++ to_be_bytes w32 (length body) = head ∙ ap (λ (n : ℕ). old ++ to_be_bytes w32 n) is in
-    (body, spells asked fields few (omega (arith, is, short)), told ∙ ap (λ (m : List ℕ). m ++ body) front ∙ append_assoc old (to_be_bytes w32 (length body)) body)
-framed (Err e) asked len old mid new fields few is short head told = told
+spells_framed (Ok x) asked old new fields few limit told = (asked_bytes asked, spells asked fields few limit, told)
+spells_framed (Err e) asked old new fields few limit told = told

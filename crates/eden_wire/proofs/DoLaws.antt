@@ -22,14 +22,14 @@ use Rattle.eden_wire.specs.Commands.{ChangeParts, SpellsCommand, SpellsDo, chang
 use Rattle.eden_wire.specs.Formats.{◌>>=◌, find}
 use Rattle.eden_wire.specs.Messages.{query}
 use Rattle.eden_wire.specs.Reading.{Gives, tag_at}
-use Rattle.eden_wire.specs.Stats.{question_bytes}
+use Rattle.eden_wire.specs.Questions.{question_bytes}
 use Rattle.eden_wire.proofs.Numbers.{IsBytes, along, bind_ok}
 use Rattle.eden_wire.proofs.FormatLaws.{Laws, nothing_laws, and_laws, as_type_laws, versioned_laws}
 use Rattle.eden_wire.proofs.ListLaws.{list_laws}
 use Rattle.eden_wire.proofs.TagLaws.{chosen, one_of_laws, no_case_laws, case_laws, tagged_laws}
 use Rattle.eden_wire.proofs.MessageLaws.{u32, u64, query_laws, id_laws, path_laws, file_laws, content_laws, read_back, read_encodes}
 use Rattle.eden_wire.proofs.BodyLaws.{tag_again}
-use Rattle.eden_wire.proofs.StatLaws.{question_asked}
+use Rattle.eden_wire.proofs.QuestionLaws.{question_asked}
 use Rattle.eden_wire.proofs.AskedLaws.{asked_read, asked_spelled}
 
 -- ---- fields

@@ -8,10 +8,13 @@ mod Same
 mod Whole
 mod WholeChanges
 pub mod BodyLaws
+mod QuestionLaws
+mod Written
 mod StatLaws
 mod AskedLaws
 mod DoLaws
 mod DoLengths
 mod DoneLaws
+pub mod AnswerLaws
 mod Lists
-mod Written
+mod Lengths

@@ -20,10 +20,10 @@ use Rattle.eden_messages.specs.declared.message.Cause.{Cause}
 use Rattle.eden_messages.specs.declared.message.Cause.TheVariants as causes
 use Rattle.eden_messages.specs.declared.message.Reply.{Reply}
 use Rattle.eden_messages.specs.declared.message.Reply.TheVariants.{BasisIs, ChangesAre, ContentIs, Refused, ListIs}
-use Rattle.eden_messages.specs.Spells.{mark_byte}
+use Rattle.eden_messages.specs.Spells.{kind_byte, mark_byte}
 use Rattle.eden_wire.specs.declared.fault.DecodeFault.TheVariants.{TooLarge, BadTag, BadField, Trailing}
 use Rattle.eden_wire.specs.Formats.{◌>>=◌, Format, number, only, find, no_case, case, tagged}
-use Rattle.eden_wire.specs.Messages.{query, position, id, text, path, filter, marks, mark, marked_path, paths_within, marked_paths, file_bytes, Held, content_of, held_by, held, content, Numbers, cause_of, cause_number, cause, FilteredParts, filtered_of, filtered_cases, excepting, RequestParts, request_of, request_parts, request_cases, request, ReplyParts, reply_of, reply_parts, reply}
+use Rattle.eden_wire.specs.Messages.{query, position, id, text, path, filter, marks, mark, kinds, kind, marked_path, paths_within, marked_paths, file_bytes, Held, content_of, held_by, held, content, Numbers, cause_of, cause_number, cause, FilteredParts, filtered_of, filtered_cases, excepting, RequestParts, request_of, request_parts, request_cases, request, ReplyParts, reply_of, reply_parts, reply}
 use Rattle.eden_wire.specs.Reading.{read_whole}
 use Rattle.eden_wire.proofs.Numbers.{IsBytes, bind_ok, guard_ok, held_ok, ok_is, wide16, wide32, wide64}
 use Rattle.eden_wire.proofs.FormatLaws.{Laws, nothing_laws, byte_laws, number_laws, exactly_laws, only_laws, then_laws, and_laws, as_type_laws, as_some_laws, versioned_laws}
@@ -53,7 +53,7 @@ text_laws limit = counted_laws _ (only_laws _ (number_laws w16 wide16) _)
 pub path_laws : Laws (List ℕ) path
 path_laws = only_laws _ (text_laws 1024) _
 
-filter_laws : Laws Patterns filter
+pub filter_laws : Laws Patterns filter
 filter_laws = as_some_laws _ (only_laws _ (list_laws _ (only_laws _ byte_laws _) _ (text_laws 256) _) _) _ _ (λ patterns. refl)
 
 each_mark : (m : Mark) → find mark_byte marks (mark_byte m) ≡ Ok m
@@ -61,6 +61,14 @@ each_mark Created = refl
 each_mark Removed = refl
 each_mark Changed = refl
 each_mark Root = refl
+
+each_kind : (k : Kind) → find kind_byte kinds (kind_byte k) ≡ Ok k
+each_kind Plain = refl
+each_kind Exec = refl
+each_kind Link = refl
+
+pub kind_laws : Laws Kind kind
+kind_laws = one_of_laws kind_byte kinds each_kind
 
 mark_laws : Laws Mark mark
 mark_laws = one_of_laws mark_byte marks each_mark
@@ -71,7 +79,7 @@ marked_path_laws = as_type_laws _ (and_laws _ mark_laws _ path_laws) _ _ (λ x f
 pub paths_laws : (prefix : Option (List ℕ)) → Laws (List (List ℕ)) (paths_within prefix)
 paths_laws prefix = list_laws _ u32 _ (only_laws _ path_laws _) _
 
-marked_paths_laws : Laws (List Marked) marked_paths
+pub marked_paths_laws : Laws (List Marked) marked_paths
 marked_paths_laws = list_laws _ u32 _ marked_path_laws _
 
 pub file_laws : Laws (List ℕ) file_bytes
@@ -119,7 +127,7 @@ cause_laws = as_type_laws _ (tagged_laws _ 0 (case_laws 1 _ u64 _ (case_laws 2 _
 
 -- ---- messages
 
-filtered_laws : CaseLaws FilteredParts filtered_cases 0
+pub filtered_laws : CaseLaws FilteredParts filtered_cases 0
 filtered_laws =
     case_laws 1 _ (and_laws _ query_laws _ filter_laws) _ (
     case_laws 2 _ (and_laws _ query_laws _ (and_laws _ position_laws _ filter_laws)) _ (

@@ -70,7 +70,7 @@ less_is Less e = refl
 less_is Equal e = absurd cc
 less_is Greater e = absurd cc
 
-query_is : (q : Query) → query.fits q → IsQuery q
+pub query_is : (q : Query) → query.fits q → IsQuery q
 query_is q is = record { mirror = is.0; life = is.1.0; number = is.1.1 }
 
 pub query_from : (q : Query) → IsQuery q → query.fits q
@@ -85,7 +85,7 @@ position_from p is = (is.generation, (is.sequence, (is.root, is.root_bytes)))
 text_from : (limit : ℕ) (t : List ℕ) → limit < 2 ^ 16 → IsText limit t → AreBytes t → (text limit).fits t
 text_from limit t small is bytes = ((omega (arith, is.few), and_from _ _ (lt-ltb _ _ is.some) (le-leb _ _ is.few)), bytes)
 
-path_is : (p : List ℕ) → path.fits p → IsPathText p
+pub path_is : (p : List ℕ) → path.fits p → IsPathText p
 path_is p is = record { path = none_is (path_fault p) is.1; bytes = is.0.1 }
 
 pub path_from : (p : List ℕ) → IsPathText p → path.fits p
@@ -104,18 +104,18 @@ in_any_order last [] = tt
 in_any_order last (x ∷ xs) = (refl, in_any_order (Some x) xs)
 
 -- the patterns are those of one list of a filter
-abbrev ArePatterns : List (List ℕ) → Type 0
+abbrev pub ArePatterns : List (List ℕ) → Type 0
 ArePatterns ps = (filter_fault ps ≡ None) × AllByRecursion AreBytes ps
 
-patterns_are : (ps : List (List ℕ)) → filter.fits (including ps) → ArePatterns ps
+pub patterns_are : (ps : List (List ℕ)) → filter.fits (including ps) → ArePatterns ps
 patterns_are ps is = (none_is (filter_fault ps) is.0.1, patterns_bytes ps is.0.0.1)
 
-filter_from : (ps : List (List ℕ)) → ArePatterns ps → filter.fits (including ps)
+pub filter_from : (ps : List (List ℕ)) → ArePatterns ps → filter.fits (including ps)
 filter_from ps are =
     let fits = filter_fits ps are.0 in
     ((((omega (arith, fits.few), le-leb _ _ fits.few), patterns_from ps fits.texts are.1, in_any_order None ps), ap is_none are.0), refl)
 
-filter_is : (f : Patterns) → filter.fits (including f.included) → ArePatterns f.excluded → IsFilterText f
+pub filter_is : (f : Patterns) → filter.fits (including f.included) → ArePatterns f.excluded → IsFilterText f
 filter_is f is are =
     let included = patterns_are f.included is in
     record { filter = record { included = included.0; excluded = are.0 }; included = included.1; excluded = are.1 }
@@ -157,12 +157,13 @@ paths_are prefix ps are = (record { count = are.0; texts = texts ps are.1; ascen
     within [] are = tt
     within (p ∷ ps) are = (are.0.1, within ps are.1)
 
+pub paths_fit : (prefix : Option (List ℕ)) (ps : List (List ℕ)) → AllByRecursion IsPathText ps → AreWithin prefix ps
+    → AllByRecursion (λ p. path.fits p × (is_within prefix p ≡ true)) ps
+paths_fit prefix [] are within = tt
+paths_fit prefix (p ∷ ps) are within = ((path_from p are.0, within.0), paths_fit prefix ps are.1 within.1)
+
 pub paths_from : (prefix : Option (List ℕ)) (ps : List (List ℕ)) → IsListing ps → AreWithin prefix ps → (paths_within prefix).fits ps
-paths_from prefix ps are within = (are.count, all_fit ps are.texts within, all_follow ps are.ascends)
-  where
-    all_fit : (ps : List (List ℕ)) → AllByRecursion IsPathText ps → AreWithin prefix ps → AllByRecursion (λ p. path.fits p × (is_within prefix p ≡ true)) ps
-    all_fit [] are within = tt
-    all_fit (p ∷ ps) are within = ((path_from p are.0, within.0), all_fit ps are.1 within.1)
+paths_from prefix ps are within = (are.count, paths_fit prefix ps are.texts within, all_follow ps are.ascends)
 
 -- marked paths follow one another as their paths do
 marks_follow : (last : Option Marked) (ms : List Marked) → Follow ascending_marks last ms → Follow is_above (option_map (λ m. m.path) last) (paths_of ms)

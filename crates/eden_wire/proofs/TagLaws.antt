@@ -1,10 +1,11 @@
 -- The laws of bytes for values, and of tags that say what follows.
-use Rattle.std.proofs.Common.{◌≡◌, ℕ, ◌≤◌, ◌+◌, Bool, true, false, cond, eqb, List, [], ◌∷◌, ◌++◌, Ok, refl, subst, arith, inl, inr, ◌⊎◌}
+use Rattle.std.proofs.Common.{◌≡◌, ℕ, ◌≤◌, ◌+◌, Bool, true, false, cond, eqb, List, [], ◌∷◌, ◌++◌, Option, Some, None, Ok, refl, subst, arith, inl, inr, ◌⊎◌}
 use Rattle.std.proofs.lemmas.Bool.{eqb-true, ne_eqb}
 use Rattle.eden_wire.specs.declared.fault.DecodeFault.{DecodeFault}
 use Rattle.eden_wire.proofs.Numbers.{IsBytes, bind_ok, along, Takes, Takes-then, byte_takes}
-use Rattle.eden_wire.specs.Formats.{◌>>=◌, Format, byte_at, one_of, find, Cases, no_case, case, each_case, tagged}
-use Rattle.eden_wire.proofs.FormatLaws.{Laws}
+use Rattle.eden_wire.specs.declared.fault.DecodeFault.TheVariants.{BadField}
+use Rattle.eden_wire.specs.Formats.{◌>>=◌, Format, byte_at, one_of, find, Cases, no_case, case, each_case, tagged, OptionParts, optional, option_of, option_parts}
+use Rattle.eden_wire.proofs.FormatLaws.{Laws, as_type_laws, nothing_laws}
 
 pub chosen : {A : Type 0} (b : Bool) (x y z : A) → cond b x y ≡ z → ((b ≡ true) × (x ≡ z)) ⊎ ((b ≡ false) × (y ≡ z))
 chosen true x y z e = inl (refl, e)
@@ -111,3 +112,19 @@ module _ {A : Type 0} (cases : Cases A) (least : ℕ) (laws : CaseLaws A cases l
 
   pub tagged_laws : Laws A (tagged cases)
   tagged_laws = record { again = laws.again; exact = tagged_exact }
+
+-- ---- values that may be absent
+
+option_there : {A : Type 0} (x : OptionParts A) → option_parts (option_of x) ≡ x
+option_there (inl x) = refl
+option_there (inr (inl x)) = refl
+option_there (inr (inr x)) = absurd x
+
+option_back : {A : Type 0} (y : Option A) → option_of (option_parts y) ≡ y
+option_back None = refl
+option_back (Some x) = refl
+
+pub optional_laws : {A : Type 0} (format : Format A) → Laws A format → Laws (Option A) (optional format)
+optional_laws format laws =
+    as_type_laws _ (tagged_laws _ 0 (case_laws 0 _ nothing_laws _ (case_laws 1 format laws _ (no_case_laws BadField 2) 1 (omega arith)) 0 (omega arith))) _ _
+    (λ x fits. option_there x) option_back

@@ -10,11 +10,10 @@ use Rattle.eden_messages.specs.declared.message.Reply.TheVariants.{BasisIs, Chan
 use Rattle.eden_messages.specs.Spells.{kind_byte}
 use Rattle.eden_wire.specs.declared.fault.DecodeFault.{DecodeFault}
 use Rattle.eden_wire.specs.declared.fault.DecodeFault.TheVariants.{TooLarge, BadTag, BadField, Version}
-use Rattle.eden_wire.specs.Formats.{◌>>=◌, Cases, byte_at, byte, number_at, find, then_by, ◌▹◌, as_type, versioned, tagged}
+use Rattle.eden_wire.specs.Formats.{◌>>=◌, Cases, Format, byte_at, byte, number_at, find, then_by, ◌▹◌, as_type, versioned, tagged, optional, option_of}
 use Rattle.eden_wire.specs.Messages.{query, position, path, filter, excluded, paths_within, marked_paths, file_bytes, kinds, content_of, content, cause_of, cause, filtered_of, filtered_cases, excepting, request_of, request_parts, request_cases, reply_of, reply_parts, reply_cases}
 use Rattle.eden_wire.specs.Reading.{ended, read_to_end, read_whole, read_request, read_reply, tag_at}
-use Rattle.eden_wire.specs.Stats.{found, found_of, stat}
-use Rattle.eden_wire.specs.declared.stat.Stat.{Stat}
+use Rattle.eden_wire.specs.Stats.{stat}
 use Rattle.eden_wire.specs.internal.Steps.{cause_by}
 
 -- ---- bodies
@@ -109,17 +108,26 @@ pub content_whole : (bytes : List ℕ) → content.read bytes ≡ byte_at bytes 
 content_whole [] = refl
 content_whole (b ∷ bytes) = content_by (eqb b 0) (eqb b 1) (eqb b 2) (eqb b 3) (file_bytes.read bytes) bytes
 
-found_by : (none some : Bool) (held : Result (Stat × List ℕ) DecodeFault) (rest : List ℕ)
-    → cond none (Ok (inl tt, rest)) (cond some (held >>= wrapped inl) (Err BadField) >>= wrapped inr) >>= wrapped found_of
+option_by : {A : Type 0} (none some : Bool) (held : Result (A × List ℕ) DecodeFault) (rest : List ℕ)
+    → cond none (Ok (inl tt, rest)) (cond some (held >>= wrapped inl) (Err BadField) >>= wrapped inr) >>= wrapped option_of
     ≡ cond none (Ok (None, rest)) (cond some (held >>= λ x. Ok (Some x.0, x.1)) (Err BadField))
-found_by true some held rest = refl
-found_by false true (Ok x) rest = refl
-found_by false true (Err fault) rest = refl
-found_by false false held rest = refl
+option_by true some held rest = refl
+option_by false true (Ok x) rest = refl
+option_by false true (Err fault) rest = refl
+option_by false false held rest = refl
 
-pub found_whole : (bytes : List ℕ) → found.read bytes ≡ byte_at bytes >>= λ b. cond (eqb b.0 0) (Ok (None, b.1)) (cond (eqb b.0 1) (stat.read b.1 >>= λ x. Ok (Some x.0, x.1)) (Err BadField))
-found_whole [] = refl
-found_whole (b ∷ bytes) = found_by (eqb b 0) (eqb b 1) (stat.read bytes) bytes
+optional_whole : {A : Type 0} (format : Format A) (bytes : List ℕ)
+    → (optional format).read bytes ≡ byte_at bytes >>= λ b. cond (eqb b.0 0) (Ok (None, b.1)) (cond (eqb b.0 1) (format.read b.1 >>= λ x. Ok (Some x.0, x.1)) (Err BadField))
+optional_whole format [] = refl
+optional_whole format (b ∷ bytes) = option_by (eqb b 0) (eqb b 1) (format.read bytes) bytes
+
+pub found_whole : (bytes : List ℕ)
+    → (optional stat).read bytes ≡ byte_at bytes >>= λ b. cond (eqb b.0 0) (Ok (None, b.1)) (cond (eqb b.0 1) (stat.read b.1 >>= λ x. Ok (Some x.0, x.1)) (Err BadField))
+found_whole bytes = optional_whole stat bytes
+
+pub prefix_whole : (bytes : List ℕ)
+    → (optional path).read bytes ≡ byte_at bytes >>= λ b. cond (eqb b.0 0) (Ok (None, b.1)) (cond (eqb b.0 1) (path.read b.1 >>= λ x. Ok (Some x.0, x.1)) (Err BadField))
+prefix_whole bytes = optional_whole path bytes
 
 abbrev caused : ℕ × List ℕ → Result Cause DecodeFault → Result (Cause × List ℕ) DecodeFault
 caused value made = made >>= λ c. Ok (c, value.1)

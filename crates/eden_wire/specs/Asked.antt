@@ -8,7 +8,7 @@ use Rattle.eden_wire.specs.declared.asked.Asked.{Asked}
 use Rattle.eden_wire.specs.declared.fault.DecodeFault.{DecodeFault}
 use Rattle.eden_wire.specs.Formats.{◌>>=◌, number}
 use Rattle.eden_wire.specs.Reading.{tag_at}
-use Rattle.eden_wire.specs.Stats.{question_bytes, read_question, request_of}
+use Rattle.eden_wire.specs.Questions.{question_bytes, read_question, request_of}
 
 -- what comes before a question: the version, the tag 5, and four bytes of milliseconds
 abbrev pub patience_bytes : ℕ → List ℕ

@@ -19,6 +19,8 @@ use Rattle.eden_history.specs.declared.change.ChangeFault.TheVariants.{NotADirec
 use Rattle.eden_history.specs.declared.change.Mode.{Mode}
 use Rattle.eden_history.specs.declared.change.Mode.TheVariants.{Normal, Dry, Force}
 use Rattle.eden_history.specs.declared.position.Position.{Position}
+use Rattle.eden_history.specs.Outcome.{answer_of}
+use Rattle.eden_history.specs.Worlds.{Namer, WorldState}
 use Rattle.eden_messages.specs.declared.message.Query.{Query}
 use Rattle.eden_stream.specs.Frames.{body_limit}
 use Rattle.eden_wire.specs.declared.command.Command.{Command}
@@ -29,8 +31,8 @@ use Rattle.eden_wire.specs.declared.done.Done.TheVariants.{NotWritable, At, Chec
 use Rattle.eden_wire.specs.declared.fault.DecodeFault.{DecodeFault}
 use Rattle.eden_wire.specs.declared.fault.DecodeFault.TheVariants.{BadTag, BadField}
 use Rattle.eden_wire.specs.Asked.{SpellsAsked, read_asked}
-use Rattle.eden_wire.specs.Formats.{◌>>=◌, Format, Cases, nothing, byte, number, only, ◌▹◌, as_type, list, one_of, versioned, no_case, case, each_case, tagged}
-use Rattle.eden_wire.specs.Messages.{query, position, id, path, content, file_bytes, paths_within, any_order}
+use Rattle.eden_wire.specs.Formats.{◌>>=◌, Follow, Format, Cases, nothing, byte, number, only, ◌▹◌, as_type, list, one_of, versioned, no_case, case, each_case, tagged}
+use Rattle.eden_wire.specs.Messages.{query, position, id, path, content, file_bytes, is_above, paths_within, any_order}
 use Rattle.eden_wire.specs.Reading.{read_whole, tag_at}
 
 -- ---- changes
@@ -296,3 +298,12 @@ done_of (answers.At position) = At position
 done_of (answers.Checked position conflicts) =
     if nat_lt body_limit (26 + length (done.spell (Checked position conflicts))) then Conflicting position (min (length conflicts) (2 ^ 32 - 1)) else Checked position conflicts
 done_of (answers.Refused fault) = Refused fault
+
+-- the conflicts, if it lists any, ascend
+abbrev pub ListsInOrder : Done → Type 0
+ListsInOrder (Checked at conflicts) = Follow is_above None conflicts
+ListsInOrder other = Unit {0}
+
+-- what a world answers to a change lists its conflicts so
+abbrev pub AnswersListInOrder : Type 0
+AnswersListInOrder = (name : Namer) (world : WorldState) (change : Change) → ListsInOrder (done_of (answer_of name world change))

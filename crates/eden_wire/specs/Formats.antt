@@ -178,3 +178,21 @@ tagged cases = record {
   fits = λ x. cases.fits x;
   read = λ bytes. byte_at bytes >>= λ t. cases.read t.0 t.1;
 }
+
+-- ---- values that may be absent
+
+abbrev pub OptionParts : Type 0 → Type 0
+OptionParts A = Unit ⊎ (A ⊎ ⊥)
+
+abbrev pub option_of : {A : Type 0} → OptionParts A → Option A
+option_of (inl x) = None
+option_of (inr (inl x)) = Some x
+option_of (inr (inr x)) = absurd x
+
+abbrev pub option_parts : {A : Type 0} → Option A → OptionParts A
+option_parts None = inl tt
+option_parts (Some x) = inr (inl x)
+
+-- a byte 0 if there is no value, or a byte 1 and the value
+abbrev pub optional : {A : Type 0} → Format A → Format (Option A)
+optional format = as_type (tagged (case 0 nothing (case 1 format (no_case BadField)))) option_of option_parts

@@ -1,7 +1,11 @@
 pub mod Formats
 pub mod Messages
 pub mod Reading
+pub mod Questions
 pub mod Stats
+pub mod Attributes
+pub mod Statuses
+pub mod Wanted
 pub mod Asked
 pub mod Commands
 pub mod Laws

@@ -1,9 +1,11 @@
 -- Reading a body from left to right: what it holds, or the first fault that is met.
-use Rattle.std.specs.Prelude.{◌≡◌, ◌≢◌, ℕ, List, length, Result, Ok, Err, nat_lt, ◌==◌, if◌then◌else◌}
+use Rattle.std.specs.Prelude.{◌≡◌, ◌≢◌, ℕ, ◌≤◌, List, ◌∷◌, length, Result, Ok, Err, nat_lt, ◌==◌, if◌then◌else◌}
+use Rattle.eden_ids.specs.Texts.{AreBytes}
 use Rattle.eden_messages.specs.declared.message.Request.{Request}
 use Rattle.eden_messages.specs.declared.message.Reply.{Reply}
 use Rattle.eden_wire.specs.declared.fault.DecodeFault.{DecodeFault}
-use Rattle.eden_wire.specs.declared.fault.DecodeFault.TheVariants.{TooLarge, Trailing, NoMemory}
+use Rattle.eden_stream.specs.Frames.{body_limit}
+use Rattle.eden_wire.specs.declared.fault.DecodeFault.TheVariants.{BadTag, TooLarge, Trailing, NoMemory}
 use Rattle.eden_wire.specs.Formats.{◌>>=◌, Format, byte, versioned}
 use Rattle.eden_wire.specs.Messages.{request, reply}
 
@@ -38,3 +40,27 @@ read_reply body = read_whole reply body
 -- the tag, which comes after the version, and the bytes after it
 unfoldable pub tag_at : List ℕ → Result (ℕ × List ℕ) DecodeFault
 tag_at body = if nat_lt 16777216 (length body) then Err TooLarge else (versioned byte).read body
+
+-- ---- messages with a tag of their own
+
+-- the bytes after this tag; another one is a fault
+abbrev pub after_tag : ℕ → List ℕ → Result (List ℕ) DecodeFault
+after_tag wanted body = tag_at body >>= λ tag. if tag.0 == wanted then Ok tag.1 else Err BadTag
+
+-- the message of this tag that a body encodes, or the first fault
+abbrev pub read_tagged : {A : Type 0} → ℕ → Format A → List ℕ → Result A DecodeFault
+read_tagged wanted format body = after_tag wanted body >>= λ rest. read_to_end format (λ x. x) rest
+
+-- the body encodes the message after the version and this tag
+pub record Spells {A : Type 0} (tag : ℕ) (format : Format A) (body : List ℕ) (message : A) : Type 0 where
+  pub fields : format.fits message
+  pub bytes : body ≡ 2 ∷ tag ∷ format.spell message
+  pub limit : length body ≤ body_limit
+
+-- the body of a message is read as that message
+abbrev pub AreReadBack : {A : Type 0} → ℕ → Format A → Type 0
+AreReadBack {A} tag format = (body : List ℕ) (message : A) → Spells tag format body message → read_tagged tag format body ≡ Ok message
+
+-- a body that is read as a message encodes it
+abbrev pub ReadAreSpelled : {A : Type 0} → ℕ → Format A → Type 0
+ReadAreSpelled {A} tag format = (body : List ℕ) (message : A) → AreBytes body → read_tagged tag format body ≡ Ok message → Spells tag format body message

@@ -81,7 +81,7 @@ fn put_asked(out: &mut Vec<u8>, asked: &Asked) -> Result<(), AllocError>
 /// Returns the length of the body of what is asked.
 fn len_of_asked(asked: &Asked) -> u32
     ensures len { result ≡ length (asked_bytes asked.now) }
-    ensures few { result ≤ 17574 }
+    ensures few { result ≤ 17575 }
     ensures patience { asked.now.patience < 2 ^ 32 }
 {
     let front = if asked.patience > 0 { 6 } else { 0 };
@@ -96,7 +96,6 @@ fn len_of_asked(asked: &Asked) -> u32
 ///
 /// - `AllocError` if an allocation fails. The text may then end with a part of the frame; what was
 ///   there before is unchanged.
-#[tactic(auto, unfolding(eden_stream::specs::Frames::frame))]
 pub fn append_asked(text: &mut Vec<u8>, asked: &Asked) -> Result<(), AllocError>
     ensures read_back { OnOk result ((body : List ℕ) × SpellsAsked body asked.now × (text.new.items ≡ text.old.items ++ frame body)) }
     ensures exact { OnOk result (text.new.items ≡ text.old.items ++ frame (asked_bytes asked.now)) }

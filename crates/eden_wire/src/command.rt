@@ -21,10 +21,10 @@ use crate::decoding::{tag_of, whole};
 use crate::encoding::{len_of_path, put_bytes, put_counted, put_file, put_head, put_path};
 use crate::fault::{DecodeFault, EncodeFault};
 use crate::fields::{byte_of, bytes_of, content_of, id_of, path_of, query_of, u32_of, u64_of};
-use crate::question::query_law;
+use bytes::Bytes;
 use eden_history::{Change, Mode, change_law};
 use eden_ids::{Content, Sequence, id_law};
-use eden_messages::Query;
+use eden_messages::{Query, query_law};
 use eden_objects::{Object, ObjectType};
 use eden_stream::BODY_LIMIT;
 use std::alloc::{AllocError, Global};
@@ -137,7 +137,7 @@ fn object_of(alloc: Global, bytes: &[u8]) -> Result<(Object, &[u8]), DecodeFault
     let (byte, rest) = byte_of(bytes)?;
     let object_type = type_of_byte(byte)?;
     let (held, rest) = bytes_of(rest)?;
-    let payload = Sequence::from_vec(held.to_vec(alloc)?);
+    let payload = Bytes::copy_from_slice(alloc, held)?;
     Ok((
         Object {
             object_type,

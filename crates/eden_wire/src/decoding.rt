@@ -10,7 +10,7 @@ ghost use Rattle.eden_messages.specs.Spells.{SpellsRequest, SpellsReply};
 ghost use Rattle.eden_wire.specs.Formats.{byte, items_at, only, tagged, then_by, versioned, ◌▹◌};
 ghost use Rattle.eden_wire.specs.Messages.{query, position, path, filter, excluded, excepting, filtered_of, filtered_cases, marked_path, is_above, is_within, paths_within, ascending_marks, marked_paths, content, cause};
 ghost use Rattle.eden_wire.specs.Messages as messages;
-ghost use Rattle.eden_wire.specs.Reading.{Gives, ended, read_to_end, tag_at, read_request, read_reply};
+ghost use Rattle.eden_wire.specs.Reading.{Gives, after_tag, ended, read_to_end, tag_at, read_request, read_reply};
 ghost use Rattle.eden_wire.specs.internal.Listing.{last_item};
 
 use crate::fault::DecodeFault;
@@ -26,7 +26,7 @@ use eden_stream::BODY_LIMIT;
 use std::alloc::Global;
 
 /// Reads the version and the tag after it.
-fn head_of(bytes: &[u8]) -> Result<(u8, &[u8]), DecodeFault>
+pub(crate) fn head_of(bytes: &[u8]) -> Result<(u8, &[u8]), DecodeFault>
     ensures { Gives (λ x. (x.0, x.1.now)) result ((versioned byte).read bytes.now) }
 {
     let (version, rest) = byte_of(bytes)?;
@@ -47,10 +47,21 @@ pub(crate) fn tag_of(body: &[u8]) -> Result<(u8, &[u8]), DecodeFault>
     head_of(body)
 }
 
+/// Reads the version and this tag. Returns the bytes after them.
+pub(crate) fn after_tag(wanted: u8, body: &[u8]) -> Result<&[u8], DecodeFault>
+    ensures { Gives (λ rest. rest.now) result (after_tag wanted body.now) }
+{
+    let (tag, rest) = tag_of(body)?;
+    if tag != wanted {
+        return Err(DecodeFault::BadTag);
+    }
+    Ok(rest)
+}
+
 /// Returns true if the path sorts after the last one.
 ///
 /// It also does if there is none.
-fn is_above(last: Option<&Path>, path: &Path) -> bool
+pub(crate) fn is_above(last: Option<&Path>, path: &Path) -> bool
     ensures { result ≡ messages.is_above (option_copied last.entry) path.now }
 {
     match last {
@@ -62,7 +73,7 @@ fn is_above(last: Option<&Path>, path: &Path) -> bool
 /// Returns true if the path is below the directory.
 ///
 /// It also is if there is none.
-fn is_within(prefix: Option<&Path>, path: &Path) -> bool
+pub(crate) fn is_within(prefix: Option<&Path>, path: &Path) -> bool
     ensures { result ≡ messages.is_within (option_copied prefix.entry) path.now }
 {
     match prefix {
@@ -157,7 +168,10 @@ fn list_of(alloc: Global, count: u32, bytes: &[u8]) -> Result<(Vec<Marked>, &[u8
 }
 
 /// Reads a list of marked paths. Returns it and the bytes after it.
-fn listing_of(alloc: Global, bytes: &[u8]) -> Result<(Sequence<Marked>, &[u8]), DecodeFault>
+pub(crate) fn listing_of(
+    alloc: Global,
+    bytes: &[u8],
+) -> Result<(Sequence<Marked>, &[u8]), DecodeFault>
     ensures { Gives (λ x. (x.0, x.1.now)) result (marked_paths.read bytes.now) }
 {
     let (count, rest) = u32_of(bytes)?;
@@ -225,7 +239,7 @@ fn list_request_of(alloc: Global, bytes: &[u8]) -> Result<Request, DecodeFault>
 }
 
 /// Returns the request with the patterns of another filter excluded.
-fn excepting(request: Request, excluded: &Filter) -> Result<Request, NoMemory>
+pub(crate) fn excepting(request: Request, excluded: &Filter) -> Result<Request, NoMemory>
     ensures { IfOk result (λ r. r ≡ excepting excluded.now request) }
 {
     match request {
@@ -263,7 +277,7 @@ fn excepting(request: Request, excluded: &Filter) -> Result<Request, NoMemory>
 
 /// Reads a request with a filter, from its version on.
 #[tactic(auto, using(crate::proofs::Whole::filtered_whole))]
-fn filtered_of(alloc: Global, bytes: &[u8]) -> Result<Request, DecodeFault>
+pub(crate) fn filtered_of(alloc: Global, bytes: &[u8]) -> Result<Request, DecodeFault>
     ensures { Gives (λ request. request) result (read_to_end (versioned (tagged filtered_cases)) filtered_of bytes.now) }
 {
     let (tag, rest) = head_of(bytes)?;

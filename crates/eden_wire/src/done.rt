@@ -2,17 +2,18 @@
 
 ghost use Rattle.std.specs.Prelude.{◌≡◌, ◌≤◌, ◌+◌, ◌++◌, ℕ, List, length, nat_le, Ok, OnOk, IfOk, None};
 ghost use Rattle.std.specs.Int.{w32, w64};
-ghost use Rattle.std.specs.List.{flat_map};
+ghost use Rattle.std.specs.List.{AllByRecursion, flat_map};
 ghost use Rattle.eden_history.specs.declared.answer.Answer.TheVariants as answers;
 ghost use Rattle.eden_history.specs.declared.change.ChangeFault.TheVariants.{BadObject};
 ghost use Rattle.eden_ids.specs.Fronts.{KeepsFront};
+ghost use Rattle.eden_ids.specs.Texts.{IsPathText};
 ghost use Rattle.eden_messages.specs.declared.message.Query.{Query};
 ghost use Rattle.eden_messages.specs.Spells.{text_bytes};
 ghost use Rattle.eden_stream.specs.Frames.{body_limit, frame};
 ghost use Rattle.eden_wire.specs.declared.done.Done.{Done};
 ghost use Rattle.eden_wire.specs.declared.done.Done.TheVariants.{At, Checked, Conflicting, Refused};
 ghost use Rattle.eden_wire.specs.Commands as formats;
-ghost use Rattle.eden_wire.specs.Commands.{SpellsDone, done, done_bytes, done_of, fault, fault_byte, no_object, plain_faults, put_byte, put_fault, put_faults, read_done};
+ghost use Rattle.eden_wire.specs.Commands.{ListsInOrder, SpellsDone, done, done_bytes, done_of, fault, fault_byte, no_object, plain_faults, put_byte, put_fault, put_faults, read_done};
 ghost use Rattle.eden_wire.specs.Formats.{find, number, ◌▹◌};
 ghost use Rattle.eden_wire.specs.Messages.{paths_within, position, query};
 ghost use Rattle.eden_wire.specs.Reading.{Gives, read_to_end};
@@ -23,7 +24,7 @@ use crate::encoding::{len_of_path, put_bytes, put_head, put_paths, put_position}
 use crate::fault::DecodeFault;
 use crate::fields::{byte_of, position_of, query_of, u32_of, u64_of};
 use eden_history::{Answer, ChangeFault, Position};
-use eden_ids::{Path, Sequence, id_law};
+use eden_ids::{Path, Sequence, id_law, path_law};
 use eden_messages::Query;
 use eden_objects::PutFault;
 use eden_stream::BODY_LIMIT;
@@ -364,17 +365,69 @@ fn put_done(out: &mut Vec<u8>, done: &Done) -> Result<(), AllocError>
     }
 }
 
-/// Writes the frame of an answer after a text: four bytes of length, and its body.
-///
-/// The body must not be too long; that of `Done::of` never is.
-///
-/// # Errors
-///
-/// - `AllocError` if an allocation fails. The text may then end with a part of the frame; what
-///   was there before is unchanged.
+// ---- what can be encoded
+
+/// States that a position can be encoded.
+fn position_law(at: Position)
+    ensures { position.fits at }
+{
+    id_law(at.root);
+}
+
+/// States that each of these paths can be encoded.
+fn paths_law(paths: &[Path])
+    ensures { AllByRecursion IsPathText paths.now }
+{
+    for path in paths {
+        path_law(path);
+    }
+}
+
+/// States that a fault can be encoded.
+fn fault_law(why: ChangeFault)
+    ensures { fault.fits why }
+{}
+
+/// States that a count can be encoded.
+fn count_law(count: u32)
+    ensures { (number w32).fits count }
+{}
+
+/// States that each part of an answer can be encoded, if its conflicts ascend.
+fn fields_law(done: &Done)
+    requires { length (formats.done.spell done.now) ≤ body_limit }
+    ensures { ListsInOrder done.now → formats.done.fits done.now }
+{
+    match done {
+        Done::NotWritable => {}
+        Done::At(position) => position_law(*position),
+        Done::Checked {
+            position,
+            conflicts,
+        } => {
+            position_law(*position);
+            paths_law(conflicts.as_slice());
+        }
+        Done::Refused(fault) => fault_law(*fault),
+        Done::Conflicting { position, count } => {
+            position_law(*position);
+            count_law(*count);
+        }
+    }
+}
+
+/// States that the body of an answer encodes it, if its conflicts ascend.
+fn spelled_law(query: Query, done: &Done)
+    requires { length (done_bytes query done.now) ≤ body_limit }
+    ensures { ListsInOrder done.now → SpellsDone (done_bytes query done.now) query done.now }
+{
+    fields_law(done);
+}
+
+/// Writes the frame of an answer: four bytes of length, and its body.
 #[tactic(auto, unfolding(eden_stream::specs::Frames::frame))]
-pub fn append_done(text: &mut Vec<u8>, query: Query, done: &Done) -> Result<(), AllocError>
-    requires fits { length (done_bytes query done.now) ≤ body_limit }
+fn put_frame(text: &mut Vec<u8>, query: Query, done: &Done) -> Result<(), AllocError>
+    requires { length (done_bytes query done.now) ≤ body_limit }
     ensures exact { OnOk result (text.new.items ≡ text.old.items ++ frame (done_bytes query done.now)) }
     ensures front { KeepsFront text.old.items text.new.items }
 {
@@ -386,6 +439,25 @@ pub fn append_done(text: &mut Vec<u8>, query: Query, done: &Done) -> Result<(), 
     let len = (text.len() - body) as u32;
     text[start..body].copy_from_slice(&len.to_be_bytes());
     Ok(())
+}
+
+/// Writes the frame of an answer after a text: four bytes of length, and its body.
+///
+/// The body must not be too long; that of `Done::of` never is. If the conflicts ascend, as those of
+/// a mount do, `decode_done` reads the answer from it.
+///
+/// # Errors
+///
+/// - `AllocError` if an allocation fails. The text may then end with a part of the frame; what
+///   was there before is unchanged.
+pub fn append_done(text: &mut Vec<u8>, query: Query, done: &Done) -> Result<(), AllocError>
+    requires fits { length (done_bytes query done.now) ≤ body_limit }
+    ensures spelled { ListsInOrder done.now → SpellsDone (done_bytes query done.now) query done.now }
+    ensures exact { OnOk result (text.new.items ≡ text.old.items ++ frame (done_bytes query done.now)) }
+    ensures front { KeepsFront text.old.items text.new.items }
+{
+    spelled_law(query, done);
+    put_frame(text, query, done)
 }
 
 /// Reads the body of an answer to a change: accepts exactly the bodies that encode one.

@@ -4,6 +4,7 @@ ghost use Rattle.std.specs.Prelude.{◌≡◌, ◌≢◌, ◌<◌, ◌≤◌, �
 ghost use Rattle.std.specs.Int.{w32, to_be_bytes};
 ghost use Rattle.eden_ids.specs.Fronts.{KeepsFront};
 ghost use Rattle.eden_globs.specs.Filters.{filter_fault, lists};
+ghost use Rattle.eden_messages.specs.declared.message.Reply.TheVariants as ReplyIs;
 ghost use Rattle.eden_messages.specs.Spells.{query_bytes, position_bytes, text_bytes, excluded_bytes, filter_bytes, paths_bytes, mark_byte, marked_bytes, list_bytes, kind_byte, content_bytes, cause_bytes, request_bytes, reply_bytes, SpellsRequest, SpellsReply};
 ghost use Rattle.eden_stream.specs.Frames.{frame};
 
@@ -71,7 +72,7 @@ fn put_patterns(out: &mut Vec<u8>, patterns: &[Vec<u8>]) -> Result<(), AllocErro
 }
 
 /// Writes what a filter excludes, if it excludes anything.
-fn put_excluded(out: &mut Vec<u8>, filter: &Filter) -> Result<(), AllocError>
+pub(crate) fn put_excluded(out: &mut Vec<u8>, filter: &Filter) -> Result<(), AllocError>
     ensures told { OnOk result (out.new.items ≡ out.old.items ++ excluded_bytes filter.now.excluded) }
     ensures front { KeepsFront out.old.items out.new.items }
 {
@@ -84,7 +85,7 @@ fn put_excluded(out: &mut Vec<u8>, filter: &Filter) -> Result<(), AllocError>
 }
 
 /// Writes what a filter includes.
-fn put_included(out: &mut Vec<u8>, filter: &Filter) -> Result<(), AllocError>
+pub(crate) fn put_included(out: &mut Vec<u8>, filter: &Filter) -> Result<(), AllocError>
     ensures told { OnOk result (out.new.items ≡ out.old.items ++ filter_bytes filter.now.included) }
     ensures front { KeepsFront out.old.items out.new.items }
 {
@@ -144,7 +145,7 @@ pub(crate) fn put_paths(out: &mut Vec<u8>, paths: &[Path]) -> Result<(), AllocEr
 }
 
 /// Writes marked paths: their number, and each of them.
-fn put_list(out: &mut Vec<u8>, list: &[Marked]) -> Result<(), AllocError>
+pub(crate) fn put_list(out: &mut Vec<u8>, list: &[Marked]) -> Result<(), AllocError>
     requires { length list.now < 2 ^ 32 }
     ensures told { OnOk result (out.new.items ≡ out.old.items ++ list_bytes list.now) }
     ensures front { KeepsFront out.old.items out.new.items }
@@ -372,6 +373,16 @@ pub fn append_reply(text: &mut Vec<u8>, reply: &Reply) -> Result<(), AllocError>
     let len = (text.len() - body) as u32;
     text[start..body].copy_from_slice(&len.to_be_bytes());
     Ok(())
+}
+
+/// Writes the frame of a refusal as `TooLarge` after a text.
+#[tactic(auto, using(crate::proofs::Lengths::too_large_fits))]
+pub(crate) fn append_too_large(text: &mut Vec<u8>, query: Query) -> Result<(), AllocError>
+    ensures told { OnOk result (text.new.items ≡ text.old.items ++ frame (reply_bytes (ReplyIs.Refused query Cause.TooLarge))) }
+    ensures front { KeepsFront text.old.items text.new.items }
+{
+    let cause = Cause::TooLarge;
+    append_reply(text, &Reply::Refused { query, cause })
 }
 
 /// Returns the frame of a reply: four bytes of length, and its body.

@@ -3,7 +3,7 @@
 ghost use Rattle.std.specs.Prelude.{◌≡◌, None, map};
 ghost use Rattle.std.specs.Int.{w16, w32, w64};
 ghost use Rattle.eden_messages.specs.Spells.{kind_byte, mark_byte};
-ghost use Rattle.eden_wire.specs.Formats.{byte, number, exactly, items_at, find};
+ghost use Rattle.eden_wire.specs.Formats.{byte, number, exactly, items_at, find, optional};
 ghost use Rattle.eden_wire.specs.Messages.{query, position, text, path, any_order, filter, excluded, marks, mark, file_bytes, kinds, content, cause};
 ghost use Rattle.eden_wire.specs.Reading.{Gives};
 ghost use Rattle.eden_wire.specs.internal.Steps.{path_of, filter_of, cause_by};
@@ -126,6 +126,22 @@ pub(crate) fn path_of(alloc: Global, bytes: &[u8]) -> Result<(Path, &[u8]), Deco
 {
     let (text, rest) = text_of(1024, bytes)?;
     Ok((parsed_path(alloc, text)?, rest))
+}
+
+/// Reads the path of a prefix, or that there is none.
+#[tactic(auto, using(crate::proofs::Whole::prefix_whole))]
+pub(crate) fn prefix_of(alloc: Global, bytes: &[u8]) -> Result<(Option<Path>, &[u8]), DecodeFault>
+    ensures { Gives (λ x. (x.0, x.1.now)) result ((optional path).read bytes.now) }
+{
+    let (byte, rest) = byte_of(bytes)?;
+    match byte {
+        0 => Ok((None, rest)),
+        1 => {
+            let (prefix, rest) = path_of(alloc, rest)?;
+            Ok((Some(prefix), rest))
+        }
+        _ => Err(DecodeFault::BadField),
+    }
 }
 
 /// Returns the filter that these patterns make.

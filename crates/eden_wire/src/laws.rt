@@ -5,9 +5,13 @@ ghost use Rattle.eden_messages.specs.declared.message.Request.{Request};
 ghost use Rattle.eden_messages.specs.declared.message.Reply.{Reply};
 ghost use Rattle.eden_messages.specs.Spells.{SpellsRequest, SpellsReply};
 ghost use Rattle.eden_wire.specs.Asked.{AskedAreReadBack, ReadAskedAreSpelled};
-ghost use Rattle.eden_wire.specs.Commands.{CommandsAreReadBack, DoneAreReadBack, ReadCommandsAreSpelled, ReadDoneAreSpelled};
-ghost use Rattle.eden_wire.specs.Stats.{QuestionsAreReadBack, ReadQuestionsAreSpelled, ReadStatsAreSpelled, StatsAreReadBack};
+ghost use Rattle.eden_wire.specs.Attributes.{attributes_are};
+ghost use Rattle.eden_wire.specs.Commands.{AnswersListInOrder, CommandsAreReadBack, DoneAreReadBack, ReadCommandsAreSpelled, ReadDoneAreSpelled};
 ghost use Rattle.eden_wire.specs.Laws.{RequestsAreReadBack, ReadRequestsAreSpelled, RepliesAreReadBack, ReadRepliesAreSpelled};
+ghost use Rattle.eden_wire.specs.Questions.{QuestionsAreReadBack, ReadQuestionsAreSpelled};
+ghost use Rattle.eden_wire.specs.Reading.{AreReadBack, ReadAreSpelled};
+ghost use Rattle.eden_wire.specs.Stats.{stat_is};
+ghost use Rattle.eden_wire.specs.Statuses.{status_is};
 
 /// States that the body of a request is decoded to it.
 ///
@@ -39,8 +43,26 @@ pub fn question_law()
 ///
 /// Conversely, a body that was decoded to such a reply encodes it.
 pub fn stat_law()
-    ensures decoded { StatsAreReadBack }
-    ensures encoded { ReadStatsAreSpelled }
+    ensures decoded { AreReadBack 136 stat_is }
+    ensures encoded { ReadAreSpelled 136 stat_is }
+{}
+
+/// States that the body of a reply to attributes is decoded to it.
+///
+/// Conversely, a body that was decoded to such a reply encodes it. As for a reply to a request, one
+/// with files out of order, or not below its prefix, has no valid encoding.
+pub fn attributes_law()
+    ensures decoded { AreReadBack 137 attributes_are }
+    ensures encoded { ReadAreSpelled 137 attributes_are }
+{}
+
+/// States that the body of a reply to a status is decoded to it.
+///
+/// Conversely, a body that was decoded to such a reply encodes it. One with paths out of order has
+/// no valid encoding.
+pub fn status_law()
+    ensures decoded { AreReadBack 138 status_is }
+    ensures encoded { ReadAreSpelled 138 status_is }
 {}
 
 /// States that the body of what is asked is decoded to it.
@@ -66,6 +88,13 @@ pub fn command_law()
 pub fn done_law()
     ensures decoded { DoneAreReadBack }
     ensures encoded { ReadDoneAreSpelled }
+{}
+
+/// States that what a world answers to a change lists its conflicts in order.
+///
+/// So its body is decoded to it (`append_done`).
+pub fn answer_law()
+    ensures { AnswersListInOrder }
 {}
 
 /// States that a body encodes at most one message.

@@ -1,36 +1,27 @@
 //! Files without their bytes: what a service replies to a Stat.
 
-ghost use Rattle.std.specs.Prelude.{◌≡◌, ◌<◌, ◌≤◌, ◌^◌, ◌++◌, ℕ, List, length, IfOk, OnOk, Ok};
+ghost use Rattle.std.specs.Prelude.{◌≡◌, ◌≤◌, ◌++◌, ℕ, List, length, IfOk, OnOk, Ok};
 ghost use Rattle.eden_ids.specs.Fronts.{KeepsFront};
-ghost use Rattle.eden_messages.specs.Spells.{IsPosition, kind_byte, reply_bytes};
+ghost use Rattle.eden_messages.specs.Spells.{reply_bytes};
 ghost use Rattle.eden_stream.specs.Frames.{frame};
+ghost use Rattle.eden_wire.specs.Formats.{optional};
 ghost use Rattle.eden_wire.specs.Stats as formats;
-ghost use Rattle.eden_wire.specs.Stats.{SpellsStat, found, read_stat, said, stat, stat_bytes, stat_is, stat_of};
+ghost use Rattle.eden_wire.specs.Stats.{SpellsStat, read_stat, stat, stat_bytes, stat_is};
 ghost use Rattle.eden_wire.specs.Reading.{Gives, read_to_end};
+ghost use Rattle.eden_wire.specs.Wanted.{said};
 
-use crate::decoding::{tag_of, whole};
+use crate::decoding::{after_tag, whole};
 use crate::encoding::{
     append_reply, byte_of_kind, len_of_path, put_bytes, put_head, put_path, put_position,
 };
 use crate::fault::DecodeFault;
 use crate::fields::{byte_of, id_of, kind_of_byte, path_of, position_of, query_of, u32_of};
-use crate::question::{Wants, query_law};
-use eden_git::ObjectType;
+use crate::question::Wants;
 use eden_history::Position;
-use eden_ids::{Content, Id, Kind, Naming, Path, id_law, path_law};
-use eden_messages::{Query, Reply};
+use eden_ids::{Naming, Path, id_law, path_law};
+use eden_messages::{Query, Reply, position_law, query_law};
+use eden_objects::Stat;
 use std::alloc::{AllocError, Global};
-
-/// A file without its bytes.
-#[derive(Clone, Copy, Debug, PartialEq, Eq)]
-pub struct Stat {
-    /// The file's kind.
-    pub kind: Kind,
-    /// The number of its bytes.
-    pub length: u32,
-    /// The id of the blob that its bytes make.
-    pub id: Id,
-}
 
 /// The reply to a Stat: a position, and what was at the path then.
 #[derive(Debug, PartialEq, Eq, Drop)]
@@ -45,26 +36,10 @@ pub struct StatIs {
     pub stat: Option<Stat>,
 }
 
-impl Stat {
-    /// Returns a file without its bytes, which are hashed for the id.
-    ///
-    /// The file must have fewer than 2^32 bytes. Does not allocate.
-    pub fn of<N: Naming>(naming: &N, content: &Content) -> Stat
-        requires { length content.now.bytes < 2 ^ 32 }
-        ensures { result ≡ stat_of N.id content.now }
-    {
-        let bytes = content.bytes.as_slice();
-        Stat {
-            kind: content.kind,
-            length: bytes.len() as u32,
-            id: naming.id_of(ObjectType::Blob.text(), bytes),
-        }
-    }
-}
-
 // ---- reading
 
-fn stat_of(bytes: &[u8]) -> Result<(Stat, &[u8]), DecodeFault>
+/// Reads a kind, a length and an id.
+pub(crate) fn stat_of(bytes: &[u8]) -> Result<(Stat, &[u8]), DecodeFault>
     ensures { Gives (λ x. (x.0, x.1.now)) result (stat.read bytes.now) }
 {
     let (byte, rest) = byte_of(bytes)?;
@@ -74,9 +49,10 @@ fn stat_of(bytes: &[u8]) -> Result<(Stat, &[u8]), DecodeFault>
     Ok((Stat { kind, length, id }, rest))
 }
 
+/// Reads what is at a path, or that no file is there.
 #[tactic(auto, using(crate::proofs::Whole::found_whole))]
 fn found_of(bytes: &[u8]) -> Result<(Option<Stat>, &[u8]), DecodeFault>
-    ensures { Gives (λ x. (x.0, x.1.now)) result (found.read bytes.now) }
+    ensures { Gives (λ x. (x.0, x.1.now)) result ((optional stat).read bytes.now) }
 {
     let (byte, rest) = byte_of(bytes)?;
     match byte {
@@ -106,14 +82,11 @@ fn stat_is_of(alloc: Global, bytes: &[u8]) -> Result<StatIs, DecodeFault>
     whole(message, rest)
 }
 
-#[tactic(auto, unfolding(crate::specs::Stats::read_stat))]
+/// Reads the whole body of a reply to a Stat.
 fn body_of(alloc: Global, body: &[u8]) -> Result<StatIs, DecodeFault>
     ensures { Gives (λ s. s) result (read_stat body.now) }
 {
-    let (tag, rest) = tag_of(body)?;
-    if tag != 0x88 {
-        return Err(DecodeFault::BadTag);
-    }
+    let rest = after_tag(0x88, body)?;
     stat_is_of(alloc, rest)
 }
 
@@ -133,23 +106,32 @@ pub fn decode_stat(alloc: Global, body: &[u8]) -> Result<StatIs, DecodeFault>
 
 // ---- writing
 
+/// Writes a kind, a length and an id.
+pub(crate) fn put_stat(out: &mut Vec<u8>, stat: &Stat) -> Result<(), AllocError>
+    ensures told { OnOk result (out.new.items ≡ out.old.items ++ formats.stat.spell stat.now) }
+    ensures front { KeepsFront out.old.items out.new.items }
+{
+    put_bytes(out, &[byte_of_kind(stat.kind)])?;
+    put_bytes(out, &stat.length.to_be_bytes())?;
+    put_bytes(out, &stat.id.0)
+}
+
 /// Writes what is at a path, or that no file is there.
 fn put_found(out: &mut Vec<u8>, found: &Option<Stat>) -> Result<(), AllocError>
-    ensures told { OnOk result (out.new.items ≡ out.old.items ++ formats.found.spell found.now) }
+    ensures told { OnOk result (out.new.items ≡ out.old.items ++ (optional stat).spell found.now) }
     ensures front { KeepsFront out.old.items out.new.items }
 {
     match found {
         None => put_bytes(out, &[0]),
-        Some(Stat { kind, length, id }) => {
-            put_bytes(out, &[1, byte_of_kind(*kind)])?;
-            put_bytes(out, &length.to_be_bytes())?;
-            put_bytes(out, &id.0)
+        Some(stat) => {
+            put_bytes(out, &[1])?;
+            put_stat(out, stat)
         }
     }
 }
 
 /// Writes the body of a reply to a Stat.
-fn put_stat(out: &mut Vec<u8>, stat: &StatIs) -> Result<(), AllocError>
+fn put_stat_is(out: &mut Vec<u8>, stat: &StatIs) -> Result<(), AllocError>
     ensures told { OnOk result (out.new.items ≡ out.old.items ++ stat_bytes stat.now) }
     ensures front { KeepsFront out.old.items out.new.items }
 {
@@ -175,13 +157,6 @@ fn len_of_stat(stat: &StatIs) -> u32
     (62 + len_of_path(&stat.path) + found) as u32
 }
 
-/// States that a position can be encoded.
-fn position_law(position: Position)
-    ensures { IsPosition position }
-{
-    id_law(position.root);
-}
-
 /// States that a kind, a length and an id can be encoded.
 fn stat_law(stat: Stat)
     ensures { formats.stat.fits stat }
@@ -191,7 +166,7 @@ fn stat_law(stat: Stat)
 
 /// States that what is at a path can be encoded.
 fn found_law(found: &Option<Stat>)
-    ensures { formats.found.fits found.now }
+    ensures { (optional stat).fits found.now }
 {
     match found {
         None => {}
@@ -215,7 +190,6 @@ fn stat_is_law(stat: &StatIs)
 ///
 /// - `AllocError` if an allocation fails. The text may then end with a part of the frame; what was
 ///   there before is unchanged.
-#[tactic(auto, unfolding(eden_stream::specs::Frames::frame))]
 pub fn append_stat(text: &mut Vec<u8>, stat: &StatIs) -> Result<(), AllocError>
     ensures read_back { OnOk result ((body : List ℕ) × SpellsStat body stat.now × (text.new.items ≡ text.old.items ++ frame body)) }
     ensures exact { OnOk result (text.new.items ≡ text.old.items ++ frame (stat_bytes stat.now)) }
@@ -224,7 +198,7 @@ pub fn append_stat(text: &mut Vec<u8>, stat: &StatIs) -> Result<(), AllocError>
     stat_is_law(stat);
     let len = len_of_stat(stat);
     put_bytes(text, &len.to_be_bytes())?;
-    put_stat(text, stat)
+    put_stat_is(text, stat)
 }
 
 /// Writes the frame of what is wanted of a reply after a text.

@@ -1,5 +1,5 @@
 use Rattle.eden_ids.proofs.Texts.{bytes_at}
-use Rattle.eden_wire.proofs.StatLaws.{question_read, question_spelled}
+use Rattle.eden_wire.proofs.QuestionLaws.{question_read, question_spelled}
 use Rattle.eden_wire.proofs.laws.question_law.Goals as goal
 
 pub returns-clause-decoded : goal.returns-clause-decoded

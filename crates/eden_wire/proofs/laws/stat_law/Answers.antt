@@ -1,9 +1,11 @@
 use Rattle.eden_ids.proofs.Texts.{bytes_at}
-use Rattle.eden_wire.proofs.StatLaws.{stat_read, stat_spelled}
+use Rattle.eden_wire.specs.Stats.{stat_is}
+use Rattle.eden_wire.proofs.BodyLaws.{tagged_read, tagged_spelled}
+use Rattle.eden_wire.proofs.StatLaws.{stat_is_laws}
 use Rattle.eden_wire.proofs.laws.stat_law.Goals as goal
 
 pub returns-clause-decoded : goal.returns-clause-decoded
-returns-clause-decoded c = stat_read
+returns-clause-decoded c = tagged_read 136 stat_is stat_is_laws
 
 pub returns-clause-encoded : goal.returns-clause-encoded
-returns-clause-encoded c = λ body s bytes read. stat_spelled body s (bytes_at body bytes) read
+returns-clause-encoded c = λ body message bytes read. tagged_spelled 136 stat_is stat_is_laws body message (bytes_at body bytes) read

@@ -1,6 +1,6 @@
 use Rattle.std.proofs.Common.{subst, arith}
 use Rattle.eden_wire.specs.Reading.{Gives}
-use Rattle.eden_wire.proofs.StatLaws.{question_read, is_spelled_question}
+use Rattle.eden_wire.proofs.QuestionLaws.{question_read, is_spelled_question}
 use Rattle.eden_wire.proofs.question.decode_question.Goals as goal
 
 pub returns-clause-spelled : goal.returns-clause-spelled
