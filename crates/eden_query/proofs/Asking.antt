@@ -1,6 +1,8 @@
 -- What frames say of a server, carried on from body to body, and what it says at the end.
 use Rattle.std.proofs.Common.{◌≡◌, ℕ, inl, inr, List, [], ◌∷◌, ◌++◌, map, Option, Result, Ok, Err, refl, sym, ap, ◌∙◌, subst}
 use Rattle.std.proofs.lemmas.List.{map-append}
+use Rattle.eden_history.specs.declared.answer.Answer.{Answer}
+use Rattle.eden_history.specs.Outcome.{answer_of, world_after}
 use Rattle.eden_history.specs.Worlds.{Namer, WorldState}
 use Rattle.eden_stream.proofs.FrameEndings.{at_each_end, serve_ends}
 use Rattle.eden_stream.proofs.Replying.{answers_tell, replied_none, same_replied}
@@ -12,15 +14,20 @@ use Rattle.eden_stream.specs.declared.frame_fault.FrameFault.{FrameFault}
 use Rattle.eden_stream.specs.declared.frames.ServeFault.{ServeFault}
 use Rattle.eden_stream.specs.declared.teller.Step.{Step}
 use Rattle.eden_stream.specs.declared.teller.Step.TheVariants.{Told, Fault, NoMemory}
-use Rattle.eden_wire.specs.Stats.{read_question}
+use Rattle.eden_wire.specs.Questions.{read_question}
+use Rattle.eden_wire.specs.Commands.{ListsInOrder, SpellsDone, done_bytes, done_of}
 use Rattle.eden_wire.specs.declared.command.Command.{Command}
+use Rattle.eden_wire.specs.declared.command.Command.TheVariants.{Do}
+use Rattle.eden_wire.specs.declared.command.Doing.{Doing}
+use Rattle.eden_wire.specs.declared.done.Done.{Done}
 use Rattle.eden_wire.specs.declared.fault.DecodeFault.{DecodeFault}
 use Rattle.eden_wire.specs.declared.question.Question.{Question}
+use Rattle.eden_wire.proofs.AnswerLaws.{answers_in_order}
 use Rattle.eden_query.specs.Answers.{answer_to, answered, refused_with}
-use Rattle.eden_query.specs.Commands.{Reading, after, answer_by, answers_in, as_asked, read_asking, world_past}
+use Rattle.eden_query.specs.Commands.{AllEncode, Encodes, Reading, after, answer_by, answers_in, as_asked, read_asking, world_past}
 use Rattle.eden_query.specs.Servers.{DoAll}
 use Rattle.eden_query.specs.Servings.{DoesBodies, serving_story}
-use Rattle.eden_query.specs.internal.Askings.{DoesBody, DoesOne}
+use Rattle.eden_query.specs.internal.Askings.{DoesBody, DoesCommand, DoesOne}
 
 do_more : {T : Type 0} (does : T → Command → T → Type 0) (old : T) (commands : List Command) (mid : T) (command : Command) (new : T) → DoAll does old commands mid
     → does mid command new → DoAll does old (commands ++ command ∷ []) new
@@ -31,6 +38,33 @@ after_more : (name : Namer) (read : Reading) (world : WorldState) (bodies : List
     → after name read world (bodies ++ body ∷ []) ≡ world_past name (after name read world bodies) (read body)
 after_more name read world [] body = refl
 after_more name read world (first ∷ rest) body = after_more name read (world_past name world (read first)) rest body
+
+encode_more : (name : Namer) (read : Reading) (world : WorldState) (bodies : List (List ℕ)) (body : List ℕ) → AllEncode name read world bodies
+    → Encodes name (after name read world bodies) (read body) → AllEncode name read world (bodies ++ body ∷ [])
+encode_more name read world [] body all one = (one, tt)
+encode_more name read world (first ∷ rest) body all one = (all.0, encode_more name read (world_past name world (read first)) rest body all.1 one)
+
+-- a change that a server made as worlds answer it ends in a way that can be encoded
+change_encodes : (name : Namer) (Stands : WorldState → Type 0) (doing : Doing) (answer : Answer)
+    → ((world : WorldState) → Stands world → answer ≡ answer_of name world doing.change)
+    → (ListsInOrder (done_of answer) → SpellsDone (done_bytes doing.query (done_of answer)) doing.query (done_of answer))
+    → (world : WorldState) → Stands world → Encodes name world (Ok (Do doing))
+change_encodes name Stands doing answer right spelled world s =
+    let is = right world s in
+    subst (λ (a : Answer). SpellsDone (done_bytes doing.query (done_of a)) doing.query (done_of a)) is
+    (spelled (subst (λ (a : Answer). ListsInOrder (done_of a)) (sym is) (answers_in_order name world doing.change)))
+
+-- so it was done, once
+pub change_does : {T : Type 0} (name : Namer) (stands_for : T → WorldState → Type 0) (does : T → Command → T → Type 0) (old new : T) (doing : Doing) (answer : Answer) (d : Done)
+    → d ≡ done_of answer → does old (Do doing) new → ((world : WorldState) → stands_for old world → stands_for new (world_after name world doing.change))
+    → ((world : WorldState) → stands_for old world → answer ≡ answer_of name world doing.change)
+    → (ListsInOrder d → SpellsDone (done_bytes doing.query d) doing.query d) → DoesCommand name stands_for does old (Do doing) new
+change_does name stands_for does old new doing answer d is did stands right spelled = record {
+  did = did;
+  stands = stands;
+  encoded = change_encodes name (stands_for old) doing answer right
+      (subst (λ (x : Done). ListsInOrder x → SpellsDone (done_bytes doing.query x) doing.query x) is spelled);
+}
 
 module _ {T : Type 0} (name : Namer) (read : Reading) (stands_for : T → WorldState → Type 0) (does : T → Command → T → Type 0) where
   -- the command of one more body was done
@@ -45,13 +79,16 @@ module _ {T : Type 0} (name : Namer) (read : Reading) (stands_for : T → WorldS
     stands = λ world s.
         subst (stands_for new) (ap (world_past name (after name read world bodies)) (sym one.spelled) ∙ sym (after_more name read world bodies body))
         (one.done.stands (after name read world bodies) (before.stands world s));
+    encoded = λ world s.
+        encode_more name read world bodies body (before.encoded world s)
+        (subst (Encodes name (after name read world bodies)) (sym one.spelled) (one.done.encoded (after name read world bodies) (before.stands world s)));
   }
 
   module _ (before : T) where
     pub serving_none : (serving_story name read stands_for does before before).told [] []
     serving_none = (
       λ world s. replied_none (answers_in name read world),
-      record { commands = []; spelled = refl; done = refl; stands = λ world s. s },
+      record { commands = []; spelled = refl; done = refl; stands = λ world s. s; encoded = λ world s. tt },
     )
 
     pub serving_tells : (old new : T) (bodies : List (List ℕ)) (sent body before_text text : List ℕ) (answer : Step FrameFault)

@@ -10,7 +10,7 @@ use Rattle.eden_history.specs.Changes.{below}
 use Rattle.eden_history.specs.Marks.{admitted, mark_said}
 use Rattle.eden_history.specs.Said.{by_root, by_touch, ends}
 use Rattle.eden_messages.specs.declared.message.Reply.TheVariants.{BasisIs, ChangesAre, ListIs}
-use Rattle.eden_messages.specs.Replies.{bounded}
+use Rattle.eden_messages.specs.Replies.{admitted_paths, bounded}
 use Rattle.eden_renames.specs.Renames.{at_paths, seen_through}
 use Rattle.eden_objects.specs.Closed.{IsClosed}
 use Rattle.eden_objects.specs.Commits.{commit_map}
@@ -19,16 +19,21 @@ use Rattle.eden_objects.specs.Laws.{HasAll}
 use Rattle.eden_objects.specs.Objects.{Held}
 use Rattle.eden_objects.proofs.Grown.{maps_stay}
 use Rattle.eden_ranges.specs.Expanded.{are_commits, differing, differing_after}
-use Rattle.eden_overlay.specs.Listings.{shown_over}
+use Rattle.eden_overlay.specs.Layers.{over}
 use Rattle.eden_accumulate.specs.declared.snapshot.Snapshot.{Snapshot}
-use Rattle.eden_query.specs.Raws.{NamesCommits, StaysAnswerable, TellsOver, told}
+use Rattle.eden_history.specs.Worlds.{Namer}
+use Rattle.eden_messages.specs.Spells.{reply_bytes}
+use Rattle.eden_wire.specs.declared.question.Wants.{Wants}
+use Rattle.eden_wire.specs.declared.question.Wants.TheVariants as wants
+use Rattle.eden_wire.specs.Wanted.{attributes_said, stat_said, status_said}
+use Rattle.eden_query.specs.Raws.{NamesCommits, SaysOver, StaysAnswerable, TellsOver, attributes_told, status_told, told, wanted_told}
 use Rattle.eden_query.specs.declared.raw.Raw.{Raw}
 use Rattle.eden_query.specs.declared.raw.Raw.TheVariants as raw
 use Rattle.eden_query.proofs.Telling.{named_answerable}
 
--- the paths that a snapshot shows over the files of its commit
-abbrev shown_of : Patterns → Snapshot → Option FileMap → List (List ℕ)
-shown_of patterns snapshot files = filter (admits patterns) (listing (shown_over (at_paths (seen_through (files_of files) snapshot.renames)) snapshot.touched))
+-- the files that a snapshot shows over those of its commit
+abbrev shown_of : Snapshot → Option FileMap → FileMap
+shown_of snapshot files = over (at_paths (seen_through (files_of files) snapshot.renames)) snapshot.overlay
 
 module _ (held more : List Held) (closed : IsClosed held) (grown : IsClosed more) (all : HasAll held more) where
   same_commit : (commit : Id) → IsSome (commit_map held commit) → commit_map more commit ≡ commit_map held commit
@@ -57,12 +62,36 @@ module _ (held more : List Held) (closed : IsClosed held) (grown : IsClosed more
       (admitted patterns (map mark_said (ends (map by_touch range.changes ++ map by_root (range.unclean ++ listing paths))))) range.prefixes))
       (same_differing range.roots names.0)
   same_told patterns (raw.Based query snapshot) names =
-      ap (λ (files : Option FileMap). bounded query (BasisIs query snapshot.position (shown_of patterns snapshot files))) (same_commit snapshot.position.root names)
+      ap (λ (files : Option FileMap). bounded query (BasisIs query snapshot.position (admitted_paths patterns (shown_of snapshot files)))) (same_commit snapshot.position.root names)
   same_told patterns (raw.Held query position path content) names = refl
   same_told patterns (raw.Listed query snapshot prefix) names =
-      ap (λ (files : Option FileMap). bounded query (ListIs query snapshot.position prefix (below prefix (shown_of patterns snapshot files))))
+      ap (λ (files : Option FileMap). bounded query (ListIs query snapshot.position prefix (below prefix (admitted_paths patterns (shown_of snapshot files)))))
       (same_commit snapshot.position.root names)
   same_told patterns (raw.Refused query cause) names = refl
+
+  same_attributes : (name : Namer) (patterns : Patterns) (raw : Raw) → NamesCommits (commit_map held) raw → attributes_told name more patterns raw ≡ attributes_told name held patterns raw
+  same_attributes name patterns (raw.Ranged query range) names = ap reply_bytes (same_told patterns (raw.Ranged query range) names)
+  same_attributes name patterns (raw.Based query snapshot) names =
+      ap (λ (files : Option FileMap). attributes_said name query snapshot.position None patterns (shown_of snapshot files)) (same_commit snapshot.position.root names)
+  same_attributes name patterns (raw.Held query position path content) names = refl
+  same_attributes name patterns (raw.Listed query snapshot prefix) names =
+      ap (λ (files : Option FileMap). attributes_said name query snapshot.position (Some prefix) patterns (shown_of snapshot files)) (same_commit snapshot.position.root names)
+  same_attributes name patterns (raw.Refused query cause) names = refl
+
+  same_status : (patterns : Patterns) (raw : Raw) → NamesCommits (commit_map held) raw → status_told more patterns raw ≡ status_told held patterns raw
+  same_status patterns (raw.Ranged query range) names = ap reply_bytes (same_told patterns (raw.Ranged query range) names)
+  same_status patterns (raw.Based query snapshot) names =
+      ap (λ (files : Option FileMap). status_said query snapshot.position patterns (shown_of snapshot files) (files_of files)) (same_commit snapshot.position.root names)
+  same_status patterns (raw.Held query position path content) names = refl
+  same_status patterns (raw.Listed query snapshot prefix) names = ap reply_bytes (same_told patterns (raw.Listed query snapshot prefix) names)
+  same_status patterns (raw.Refused query cause) names = refl
+
+  same_wanted : (name : Namer) (patterns : Patterns) (wants : Wants) (raw : Raw) → NamesCommits (commit_map held) raw
+      → wanted_told name more patterns wants raw ≡ wanted_told name held patterns wants raw
+  same_wanted name patterns wants.Whole raw names = ap reply_bytes (same_told patterns raw names)
+  same_wanted name patterns wants.Stat raw names = ap (stat_said name) (same_told patterns raw names)
+  same_wanted name patterns wants.Attributes raw names = same_attributes name patterns raw names
+  same_wanted name patterns wants.Status raw names = same_status patterns raw names
 
   commit_stays : (commit : Id) → IsSome (commit_map held commit) → IsSome (commit_map more commit)
   commit_stays commit there = subst IsSome (sym (same_commit commit there)) there
@@ -82,6 +111,9 @@ module _ (held more : List Held) (closed : IsClosed held) (grown : IsClosed more
 
 pub tells_over : TellsOver
 tells_over held more closed grown all patterns asked names = same_told held more closed grown all patterns asked names
+
+pub says_over : SaysOver
+says_over name held more closed grown all patterns wants asked names = same_wanted held more closed grown all name patterns wants asked names
 
 pub stays_answerable : StaysAnswerable
 stays_answerable held more closed grown all asked names = named_answerable (commit_map more) asked (names_stay held more closed grown all asked names)

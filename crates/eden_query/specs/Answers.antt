@@ -3,7 +3,8 @@ use Rattle.std.specs.Prelude.{◌≡◌, ℕ, List, [], Option, Some, None, Resu
 use Rattle.eden_wire.specs.declared.fault.DecodeFault.{DecodeFault}
 use Rattle.eden_wire.specs.declared.fault.DecodeFault.TheVariants as decode
 use Rattle.eden_wire.specs.declared.question.Question.{Question}
-use Rattle.eden_wire.specs.Stats.{read_question, request_of, said, wants_of}
+use Rattle.eden_wire.specs.Questions.{read_question, request_of, wants_of}
+use Rattle.eden_wire.specs.Wanted.{wanted_of}
 use Rattle.eden_stream.specs.declared.frame_fault.FrameFault.{FrameFault}
 use Rattle.eden_stream.specs.declared.frame_fault.FrameFault.TheVariants as frame
 use Rattle.eden_messages.specs.declared.message.Reply.{Reply}
@@ -30,11 +31,11 @@ refused_with (Some fault) = Err fault
 refused_with None = Ok []
 
 abbrev pub answered : Namer → WorldState → Result Question DecodeFault → Result (List ℕ) FrameFault
-answered name world (Ok question) = Ok (frames.frame (said name (wants_of question) (reply_of world (request_of question))))
+answered name world (Ok question) = Ok (frames.frame (wanted_of name world (wants_of question) (request_of question)))
 answered name world (Err fault) = refused_with (frame_fault_of fault)
 
--- the frame of what the body wants of the world's reply to its request, or the first fault of a body
--- that asks nothing
+-- the frame of what the world says to the body's question, or the first fault of a body that asks
+-- nothing
 abbrev pub answer_to : Namer → WorldState → List ℕ → Result (List ℕ) FrameFault
 answer_to name world body = answered name world (read_question body)
 

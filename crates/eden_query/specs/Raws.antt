@@ -1,8 +1,9 @@
--- The reply that is made of what was held of a mount.
-use Rattle.std.specs.Prelude.{◌≡◌, Bool, true, is_some, IsSome, List}
+-- The reply that is made of what was held of a mount, and what else is said of it.
+use Rattle.std.specs.Prelude.{◌≡◌, ℕ, Bool, true, is_some, IsSome, List, Some, None}
 use Rattle.eden_globs.specs.Filters.{Patterns, all_paths}
 use Rattle.eden_objects.specs.Closed.{IsClosed}
 use Rattle.eden_objects.specs.Commits.{commit_map}
+use Rattle.eden_objects.specs.Files.{commit_files}
 use Rattle.eden_objects.specs.Laws.{HasAll}
 use Rattle.eden_objects.specs.Objects.{Held}
 use Rattle.eden_ranges.specs.Expanded.{are_commits, are_comparable, expanded}
@@ -11,10 +12,14 @@ use Rattle.eden_messages.specs.declared.message.Reply.TheVariants.{BasisIs, Chan
 use Rattle.eden_messages.specs.declared.message.Request.{Request}
 use Rattle.eden_messages.specs.declared.message.Request.TheVariants.{Basis, Poll, Fetch, List as Below}
 use Rattle.eden_history.specs.Changes.{below}
-use Rattle.eden_history.specs.Worlds.{Commits}
+use Rattle.eden_history.specs.Worlds.{Commits, Namer}
 use Rattle.eden_history.specs.Marks.{admitted}
 use Rattle.eden_messages.specs.Replies.{bounded}
-use Rattle.eden_accumulate.specs.Snapshots.{shown_to}
+use Rattle.eden_messages.specs.Spells.{reply_bytes}
+use Rattle.eden_wire.specs.declared.question.Wants.{Wants}
+use Rattle.eden_wire.specs.declared.question.Wants.TheVariants as wants
+use Rattle.eden_wire.specs.Wanted.{attributes_said, stat_said, status_said}
+use Rattle.eden_accumulate.specs.Snapshots.{shown, shown_to}
 use Rattle.eden_query.specs.declared.raw.Raw.{Raw}
 use Rattle.eden_query.specs.declared.raw.Raw.TheVariants as raw
 
@@ -27,6 +32,30 @@ told held patterns (raw.Based query snapshot) = bounded query (BasisIs query sna
 told held patterns (raw.Held query position path content) = bounded query (ContentIs query position path content)
 told held patterns (raw.Listed query snapshot prefix) = bounded query (ListIs query snapshot.position prefix (below prefix (shown_to patterns held snapshot)))
 told held patterns (raw.Refused query cause) = Refused query cause
+
+-- of a snapshot its files without their bytes, all or those below a directory; else the reply
+abbrev pub attributes_told : Namer → List Held → Patterns → Raw → List ℕ
+attributes_told name held patterns (raw.Ranged query range) = reply_bytes (told held patterns (raw.Ranged query range))
+attributes_told name held patterns (raw.Based query snapshot) = attributes_said name query snapshot.position None patterns (shown held snapshot)
+attributes_told name held patterns (raw.Held query position path content) = reply_bytes (told held patterns (raw.Held query position path content))
+attributes_told name held patterns (raw.Listed query snapshot prefix) = attributes_said name query snapshot.position (Some prefix) patterns (shown held snapshot)
+attributes_told name held patterns (raw.Refused query cause) = reply_bytes (told held patterns (raw.Refused query cause))
+
+-- of a snapshot the paths at which its files are not its commit's; else the reply
+abbrev pub status_told : List Held → Patterns → Raw → List ℕ
+status_told held patterns (raw.Ranged query range) = reply_bytes (told held patterns (raw.Ranged query range))
+status_told held patterns (raw.Based query snapshot) =
+    status_said query snapshot.position patterns (shown held snapshot) (commit_files held snapshot.position.root)
+status_told held patterns (raw.Held query position path content) = reply_bytes (told held patterns (raw.Held query position path content))
+status_told held patterns (raw.Listed query snapshot prefix) = reply_bytes (told held patterns (raw.Listed query snapshot prefix))
+status_told held patterns (raw.Refused query cause) = reply_bytes (told held patterns (raw.Refused query cause))
+
+-- the body that is said of it, by what is wanted of the reply
+abbrev pub wanted_told : Namer → List Held → Patterns → Wants → Raw → List ℕ
+wanted_told name held patterns wants.Whole raw = reply_bytes (told held patterns raw)
+wanted_told name held patterns wants.Stat raw = stat_said name (told held patterns raw)
+wanted_told name held patterns wants.Attributes raw = attributes_told name held patterns raw
+wanted_told name held patterns wants.Status raw = status_told held patterns raw
 
 -- whether the commits are there that the reply takes: two neighbouring roots of a range are equal
 -- or are both commits, and the root of a snapshot is a commit
@@ -57,6 +86,11 @@ patterns_of (Below query prefix patterns) = patterns
 abbrev pub TellsOver : Type 0
 TellsOver = (held more : List Held) → IsClosed held → IsClosed more → HasAll held more → (patterns : Patterns) (raw : Raw)
     → NamesCommits (commit_map held) raw → told more patterns raw ≡ told held patterns raw
+
+-- and so is what else is said of it
+abbrev pub SaysOver : Type 0
+SaysOver = (name : Namer) (held more : List Held) → IsClosed held → IsClosed more → HasAll held more → (patterns : Patterns) (wants : Wants) (raw : Raw)
+    → NamesCommits (commit_map held) raw → wanted_told name more patterns wants raw ≡ wanted_told name held patterns wants raw
 
 -- and it can be made over them
 abbrev pub StaysAnswerable : Type 0

@@ -4,7 +4,7 @@ use Rattle.eden_history.specs.declared.answer.Answer.{Answer}
 use Rattle.eden_history.specs.declared.change.Change.{Change}
 use Rattle.eden_messages.specs.declared.message.Request.{Request}
 use Rattle.eden_query.specs.declared.raw.Raw.{Raw}
-use Rattle.eden_wire.specs.Stats.{request_of}
+use Rattle.eden_wire.specs.Questions.{request_of}
 use Rattle.eden_wire.specs.declared.command.Command.{Command}
 use Rattle.eden_wire.specs.declared.command.Command.TheVariants.{Ask, Do}
 

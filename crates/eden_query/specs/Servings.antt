@@ -7,18 +7,19 @@ use Rattle.eden_stream.specs.declared.frame_fault.FrameFault.{FrameFault}
 use Rattle.eden_wire.specs.declared.command.Command.{Command}
 use Rattle.eden_wire.specs.declared.fault.DecodeFault.{DecodeFault}
 use Rattle.eden_query.specs.Answers.{frame_fault_of}
-use Rattle.eden_query.specs.Commands.{Reading, after, answers_in}
+use Rattle.eden_query.specs.Commands.{AllEncode, Reading, after, answers_in}
 use Rattle.eden_query.specs.Servers.{DoAll}
 
 -- The commands that the bodies spell took the server from the first state to the last, in order,
 -- each once and nothing else. Where it was the present of a world, it is the present of that world
--- after the bodies.
+-- after the bodies, and a client can read how each of their changes ends.
 pub record DoesBodies {T : Type 0} (name : Namer) (read : Reading) (stands_for : T → WorldState → Type 0) (does : T → Command → T → Type 0)
     (old : T) (bodies : List (List ℕ)) (new : T) : Type 0 where
   pub commands : List Command
   pub spelled : map read bodies ≡ map (λ command. Ok command) commands
   pub done : DoAll does old commands new
   pub stands : (world : WorldState) → stands_for old world → stands_for new (after name read world bodies)
+  pub encoded : (world : WorldState) → stands_for old world → AllEncode name read world bodies
 
 -- where the server was the present of a world, the text is what that world answers to the bodies
 abbrev pub AnswersRightly : {T : Type 0} → Namer → Reading → (T → WorldState → Type 0) → T → List (List ℕ) → List ℕ → Type 0

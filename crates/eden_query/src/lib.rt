@@ -2,7 +2,7 @@
 //! writer.
 //!
 //! A server first holds what a request asks for (`Served::hold`). Then the reply is made without
-//! the server (`answer_request`). The calls for the bytes of messages are eden_wire's.
+//! the server (`answer_request`), or the frame of what else a question wants (`append_answer`). The calls for the bytes of messages are eden_wire's.
 //!
 //! ```rust
 //! use eden_accumulate::Mount;
@@ -29,7 +29,7 @@
 //! ```
 #![tactic(auto)]
 
-pub use crate::answering::{answer, answer_request};
+pub use crate::answering::{answer, answer_held, answer_request, append_answer, append_beside};
 pub use crate::laws::told_over_law;
 pub use crate::naming::UnitNaming;
 pub use crate::raw::Raw;

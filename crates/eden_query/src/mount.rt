@@ -8,9 +8,11 @@ ghost use Rattle.eden_accumulate.specs.Mounts.{StandsFor, files_of};
 ghost use Rattle.eden_history.specs.Worlds.{WorldState, now, position_of};
 ghost use Rattle.eden_history.specs.Status.{status_of};
 ghost use Rattle.eden_messages.specs.Replies.{reply_of};
-ghost use Rattle.eden_query.specs.Raws.{NamesCommits, patterns_of, told};
+ghost use Rattle.eden_query.specs.Raws.{NamesCommits, patterns_of, told, wanted_told};
 ghost use Rattle.eden_logs.specs.Histories.{settled_by, settled_of};
 ghost use Rattle.eden_query.specs.Settled.{settled};
+ghost use Rattle.eden_wire.specs.declared.question.Wants.{Wants};
+ghost use Rattle.eden_wire.specs.Wanted.{wanted_of};
 
 use crate::raw::Raw;
 use crate::served::Served;
@@ -21,10 +23,12 @@ use eden_messages::{Cause, Query, Request};
 use eden_objects::Store;
 
 /// Holds which files there are, for a basis.
-#[tactic(auto, using(crate::proofs::Telling::based_tells, crate::proofs::Telling::based_commits, crate::proofs::Telling::based_settled))]
+#[tactic(auto, using(crate::proofs::Telling::based_tells, crate::proofs::Telling::based_wanted, crate::proofs::Telling::based_commits, crate::proofs::Telling::based_settled))]
 fn hold_basis<N: Naming + Drop>(mount: &Mount<N>, query: Query) -> Result<Raw, NoMemory>
     ensures replies { IfOk result (λ raw. (world : WorldState) → StandsFor mount.now world → (patterns : Patterns)
         → told mount.now.held patterns raw ≡ reply_of world (Request.Basis query patterns)) }
+    ensures wanted { IfOk result (λ raw. (world : WorldState) → StandsFor mount.now world → (patterns : Patterns) (wants : Wants)
+        → wanted_told N.id mount.now.held patterns wants raw ≡ wanted_of N.id world wants (Request.Basis query patterns)) }
     ensures settled { IfOk result (λ raw. (world : WorldState) → StandsFor mount.now world → settled raw ≡ Ok (position_of (now world))) }
     ensures commits { IfOk result (λ raw. NamesCommits (commit_map mount.now.held) raw) }
 {
@@ -34,7 +38,7 @@ fn hold_basis<N: Naming + Drop>(mount: &Mount<N>, query: Query) -> Result<Raw, N
 }
 
 /// Holds which files there are, for a list of those below a directory.
-#[tactic(auto, using(crate::proofs::Telling::listed_tells, crate::proofs::Telling::listed_commits, crate::proofs::Telling::listed_settled))]
+#[tactic(auto, using(crate::proofs::Telling::listed_tells, crate::proofs::Telling::listed_wanted, crate::proofs::Telling::listed_commits, crate::proofs::Telling::listed_settled))]
 fn hold_list<N: Naming + Drop>(
     mount: &Mount<N>,
     query: Query,
@@ -42,6 +46,8 @@ fn hold_list<N: Naming + Drop>(
 ) -> Result<Raw, NoMemory>
     ensures replies { IfOk result (λ raw. (world : WorldState) → StandsFor mount.now world → (patterns : Patterns)
         → told mount.now.held patterns raw ≡ reply_of world (Request.List query prefix.now patterns)) }
+    ensures wanted { IfOk result (λ raw. (world : WorldState) → StandsFor mount.now world → (patterns : Patterns) (wants : Wants)
+        → wanted_told N.id mount.now.held patterns wants raw ≡ wanted_of N.id world wants (Request.List query prefix.now patterns)) }
     ensures settled { IfOk result (λ raw. (world : WorldState) → StandsFor mount.now world → settled raw ≡ Ok (position_of (now world))) }
     ensures commits { IfOk result (λ raw. NamesCommits (commit_map mount.now.held) raw) }
 {
@@ -51,7 +57,7 @@ fn hold_list<N: Naming + Drop>(
 }
 
 /// Holds what changed since a position, or why that is refused.
-#[tactic(auto, using(crate::proofs::Telling::ranged_tells, crate::proofs::Telling::refused_tells, crate::proofs::Telling::ranged_commits, crate::proofs::Telling::ranged_settled, crate::proofs::Telling::refused_settled))]
+#[tactic(auto, using(crate::proofs::Telling::ranged_tells, crate::proofs::Telling::refused_tells, crate::proofs::Telling::ranged_wanted, crate::proofs::Telling::refused_wanted, crate::proofs::Telling::ranged_commits, crate::proofs::Telling::ranged_settled, crate::proofs::Telling::refused_settled))]
 fn hold_poll<N: Naming + Drop>(
     mount: &Mount<N>,
     query: Query,
@@ -59,6 +65,8 @@ fn hold_poll<N: Naming + Drop>(
 ) -> Result<Raw, NoMemory>
     ensures replies { IfOk result (λ raw. (world : WorldState) → StandsFor mount.now world → (patterns : Patterns)
         → told mount.now.held patterns raw ≡ reply_of world (Request.Poll query since.now patterns)) }
+    ensures wanted { IfOk result (λ raw. (world : WorldState) → StandsFor mount.now world → (patterns : Patterns) (wants : Wants)
+        → wanted_told N.id mount.now.held patterns wants raw ≡ wanted_of N.id world wants (Request.Poll query since.now patterns)) }
     ensures settled { IfOk result (λ raw. (world : WorldState) → StandsFor mount.now world
         → settled raw ≡ settled_by (position_of (now world)) (status_of world since.now)) }
     ensures commits { IfOk result (λ raw. NamesCommits (commit_map mount.now.held) raw) }
@@ -80,10 +88,12 @@ fn content_at<N: Naming + Drop>(mount: &Mount<N>, path: &Path) -> Result<Option<
 }
 
 /// Holds what a request asks for.
-#[tactic(auto, using(crate::proofs::Telling::held_tells, crate::proofs::Telling::held_commits, crate::proofs::Telling::held_settled))]
+#[tactic(auto, using(crate::proofs::Telling::held_tells, crate::proofs::Telling::held_wanted, crate::proofs::Telling::held_commits, crate::proofs::Telling::held_settled))]
 fn hold<N: Naming + Drop>(mount: &Mount<N>, request: &Request) -> Result<Raw, NoMemory>
     ensures replies { IfOk result (λ raw. (world : WorldState) → StandsFor mount.now world
         → told mount.now.held (patterns_of request.now) raw ≡ reply_of world request.now) }
+    ensures wanted { IfOk result (λ raw. (world : WorldState) → StandsFor mount.now world → (wants : Wants)
+        → wanted_told N.id mount.now.held (patterns_of request.now) wants raw ≡ wanted_of N.id world wants request.now) }
     ensures settled { IfOk result (λ raw. (world : WorldState) → StandsFor mount.now world → settled raw ≡ settled_of world request.now) }
     ensures commits { IfOk result (λ raw. NamesCommits (commit_map mount.now.held) raw) }
 {

@@ -12,10 +12,12 @@ ghost use Rattle.eden_history.specs.Worlds.{WorldState};
 ghost use Rattle.eden_query.specs.declared.raw.Raw.{Raw};
 ghost use Rattle.eden_messages.specs.Replies.{reply_of};
 ghost use Rattle.eden_history.specs.Outcome.{answer_of, world_after};
-ghost use Rattle.eden_query.specs.Raws.{NamesCommits, is_answerable, patterns_of, told};
+ghost use Rattle.eden_query.specs.Raws.{NamesCommits, is_answerable, patterns_of, told, wanted_told};
 ghost use Rattle.eden_query.specs.Servers.{raised};
 ghost use Rattle.eden_logs.specs.Histories.{settled_of};
 ghost use Rattle.eden_query.specs.Settled.{settled};
+ghost use Rattle.eden_wire.specs.declared.question.Wants.{Wants};
+ghost use Rattle.eden_wire.specs.Wanted.{wanted_of};
 
 use crate::raw::Raw;
 use eden_history::{Answer, Change};
@@ -59,13 +61,17 @@ pub trait Served<N: Naming + Drop> {
 
     /// Holds what a request asks for, with a copy of the store.
     ///
-    /// `answer_request` makes the reply of the two, whatever the server is asked in between.
+    /// `answer_request` makes the reply of the two, whatever the server is asked in between, and
+    /// `append_answer` the frame of what else is wanted.
     /// `NoMemory` if an allocation fails. Then nothing has changed.
     fn hold(&mut self, caller: u64, request: &Request) -> Result<(Raw, Store<N>), NoMemory>
         // There is such a world.
         ensures world { (world : WorldState) × stands_for self.old world }
         ensures replies { IfOk result (λ given. (world : WorldState) → stands_for self.old world
             → told (held self.old) (patterns_of request.now) given.0 ≡ reply_of world request.now) }
+        // What else is said of it is what each such world says.
+        ensures wanted { IfOk result (λ given. (world : WorldState) → stands_for self.old world → (wants : Wants)
+            → wanted_told N.id (held self.old) (patterns_of request.now) wants given.0 ≡ wanted_of N.id world wants request.now) }
         ensures settled { IfOk result (λ given. (world : WorldState) → stands_for self.old world → settled given.0 ≡ settled_of world request.now) }
         // Each commit that it names is there, so the reply can be made.
         ensures commits { IfOk result (λ given. NamesCommits (commit_map (held self.old)) given.0) }

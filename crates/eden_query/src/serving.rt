@@ -20,7 +20,7 @@ ghost use Rattle.eden_wire.specs.Commands.{read_command};
 ghost use Rattle.eden_wire.specs.Reading.{Gives};
 ghost use Rattle.eden_wire.specs.declared.command.Command.TheVariants as commands;
 
-use crate::answering::answer_request;
+use crate::answering::{answer_request, append_answer};
 use crate::naming::UnitNaming;
 use crate::served::Served;
 use eden_ids::{Naming, NoMemory};
@@ -29,8 +29,7 @@ use eden_stream::{
     CountedRead, CountedWrite, FrameFault, Frames, ServeFault, Step, Teller, tell_frames,
 };
 use eden_wire::{
-    Asked, Command, DecodeFault, Doing, Done, append_done, append_wanted, decode_command,
-    decode_question,
+    Asked, Command, DecodeFault, Doing, Done, append_done, decode_command, decode_question,
 };
 use std::alloc::Global;
 use std::marker::PhantomData;
@@ -101,7 +100,7 @@ fn command_of(alloc: Global, writable: bool, body: &[u8]) -> Result<Command, Dec
     }))
 }
 
-/// Asks a server a question, and adds the frame of what it wants of the reply to a text.
+/// Asks a server a question, and adds the frame of what is said to it to a text.
 fn ask<N: UnitNaming + Drop, T: Served<N>>(
     server: &mut T,
     asked: Asked,
@@ -113,9 +112,8 @@ fn ask<N: UnitNaming + Drop, T: Served<N>>(
     ensures front { KeepsFront text.old.items text.new.items }
 {
     let (request, wants) = asked.question.into_request();
-    let reply = reply_to(server, STREAM, &request)?;
-    append_wanted(text, &N::unit(), wants, reply)?;
-    Ok(())
+    let (raw, store) = server.hold(STREAM, &request)?;
+    append_answer(text, wants, raw, &store, &request)
 }
 
 /// Makes a change at a server, and adds the frame of its answer to a text.
@@ -194,7 +192,8 @@ impl<N: UnitNaming + Drop, T: Served<N>> Teller<Frames, T, FrameFault> for Serve
 /// It reads the frames of requests from `reader`, and writes the frames of the replies to
 /// `writer`, in order. The server is asked as caller 0, once for each frame, and remains the
 /// present of each world whose present it was. A Stat (`eden_wire::Question`) is asked as a Fetch,
-/// and the bytes of the file are hashed for its reply.
+/// and the bytes of the file are hashed for its reply. Attributes are asked as a Basis or a List,
+/// and a status as a Basis.
 ///
 /// It reads 64 KiB at a time, and answers all whole frames before the next read. It writes the
 /// replies before the next read, and whenever there are 64 KiB of them.

@@ -5,14 +5,15 @@ use Rattle.eden_stream.specs.declared.frame_fault.FrameFault.{FrameFault}
 use Rattle.eden_stream.specs.declared.teller.Step.{Step}
 use Rattle.eden_stream.specs.declared.teller.Step.TheVariants.{Told, Fault, NoMemory}
 use Rattle.eden_wire.specs.declared.command.Command.{Command}
-use Rattle.eden_query.specs.Commands.{Reading, answer_by, world_past}
+use Rattle.eden_query.specs.Commands.{Encodes, Reading, answer_by, world_past}
 use Rattle.eden_query.specs.Servings.{IsUnread}
 
 -- The command took the server from one state to another, once. Where it was the present of a world,
--- it is the present of that world after the command.
+-- it is the present of that world after the command, and a client can read how a change ended.
 pub record DoesCommand {T : Type 0} (name : Namer) (stands_for : T → WorldState → Type 0) (does : T → Command → T → Type 0) (old : T) (command : Command) (new : T) : Type 0 where
   pub did : does old command new
   pub stands : (world : WorldState) → stands_for old world → stands_for new (world_past name world (Ok command))
+  pub encoded : (world : WorldState) → stands_for old world → Encodes name world (Ok command)
 
 -- where the server was the present of a world, the text grew by what that world answers to the
 -- command
