@@ -3,15 +3,14 @@
 --
 -- A caller that may change the server has a pass, which counts the changes. One that may not has
 -- none.
-use Rattle.std.specs.Prelude.{◌≡◌, ◌⊎◌, ℕ, ◌+◌, ◌≤◌, List, [], ◌∷◌, Option, Some, None, Ok, Err}
+use Rattle.std.specs.Prelude.{◌≡◌, ◌⊎◌, ℕ, ◌+◌, ◌≤◌, List, [], ◌∷◌, Option, Some, None, Ok}
 use Rattle.std.specs.List.{AllZip, flat_map}
 use Rattle.eden_history.specs.declared.answer.Answer.{Answer}
 use Rattle.eden_history.specs.declared.change.Change.{Change}
 use Rattle.eden_messages.specs.declared.message.Reply.{Reply}
 use Rattle.eden_messages.specs.declared.message.Request.{Request}
 use Rattle.eden_messages.specs.Spells.{SpellsReply, reply_bytes}
-use Rattle.eden_history.specs.Worlds.{Namer}
-use Rattle.eden_query.specs.Answers.{frame_fault_of}
+use Rattle.eden_query.specs.Servings.{IsUnread}
 use Rattle.eden_stream.specs.Frames.{frame}
 use Rattle.eden_stream.specs.Stories.{Story}
 use Rattle.eden_stream.specs.declared.frame_fault.FrameFault.{FrameFault}
@@ -20,15 +19,11 @@ use Rattle.eden_wire.specs.declared.command.Command.TheVariants.{Ask, Do}
 use Rattle.eden_wire.specs.declared.command.Doing.{Doing}
 use Rattle.eden_wire.specs.declared.done.Done.{Done}
 use Rattle.eden_wire.specs.declared.done.Done.TheVariants.{NotWritable}
-use Rattle.eden_wire.specs.declared.fault.DecodeFault.{DecodeFault}
 use Rattle.eden_wire.specs.declared.question.Question.{Question}
-use Rattle.eden_wire.specs.Stats.{request_of, said, wants_of}
-use Rattle.eden_wire.specs.Commands.{done_bytes, done_of, read_command}
+use Rattle.eden_wire.specs.Questions.{request_of, wants_of}
+use Rattle.eden_wire.specs.declared.question.Wants.{Wants}
+use Rattle.eden_wire.specs.Commands.{SpellsDone, done_of, read_command}
 use Rattle.eden_shared.specs.Passes.{PassView}
-
--- the body asks for nothing, and this is its fault
-abbrev pub IsUnread : List ℕ → FrameFault → Type 0
-IsUnread body fault = (cause : DecodeFault) × (read_command body ≡ Err cause) × (frame_fault_of cause ≡ Some fault)
 
 -- the body asks for this
 abbrev pub Reads : List ℕ → Command → Type 0
@@ -48,13 +43,12 @@ abbrev pub counting : ℕ → Option PassView → Option PassView
 counting more None = None
 counting more (Some pass) = Some (record pass { amount = pass.amount + more })
 
--- What is said is what the question wants of the reply that was said to its request.
-pub record SaysReply (name : Namer) (Told : ℕ → Request → Reply → Type 0) (question : Question) (body : List ℕ) : Type 0 where
+-- What is said is what the question wants in place of the reply to its request, or that reply.
+pub record SaysReply (Told : ℕ → Request → Wants → Reply → List ℕ → Type 0) (question : Question) (body : List ℕ) : Type 0 where
   pub number : ℕ
   pub reply : Reply
-  pub told : Told number (request_of question) reply
+  pub told : Told number (request_of question) (wants_of question) reply body
   pub spelled : SpellsReply (reply_bytes reply) reply
-  pub said_is : body ≡ said name (wants_of question) reply
 
 -- The change was made and got this answer. The changes before it are at least those that the pass
 -- counts.
@@ -68,10 +62,10 @@ abbrev pub EndsSo : (ℕ → Change → Answer → Type 0) → Option PassView �
 EndsSo Made None change done = done ≡ NotWritable
 EndsSo Made (Some pass) change done = (answer : Answer) × Makes Made pass change answer × (done ≡ done_of answer)
 
--- what is said to a command: the reply to a request, or how a change ended
+-- what is said to a command: the reply to a request, or a body that spells how a change ended
 abbrev pub Says : (Question → List ℕ → Type 0) → (ℕ → Change → Answer → Type 0) → Option PassView → Command → List ℕ → Type 0
 Says Tells Made writing (Ask asked) body = Tells asked.question body
-Says Tells Made writing (Do doing) body = (done : Done) × EndsSo Made writing doing.change done × (body ≡ done_bytes doing.query done)
+Says Tells Made writing (Do doing) body = (done : Done) × EndsSo Made writing doing.change done × SpellsDone body doing.query done
 
 -- This is said to the commands, one after another. The pass counts each change before the next
 -- command.
@@ -110,7 +104,7 @@ abbrev pub unlogged_story : (Question → List ℕ → Type 0) → (ℕ → Chan
 unlogged_story Tells Made before now = record {
   told = Answers Tells Made before now;
   lost = Answers Tells Made before now;
-  refused = λ bodies body fault. IsUnread body fault;
+  refused = λ bodies body fault. IsUnread read_command body fault;
   spent = λ bodies body text. Answers Tells Made before now bodies text
       ⊎ ((was : Option PassView) × Answers Tells Made before was bodies text × MakesUnsaid Made body was now);
 }

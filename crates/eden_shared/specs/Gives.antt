@@ -14,7 +14,9 @@ use Rattle.eden_messages.specs.declared.message.Request.{Request}
 use Rattle.eden_messages.specs.Replies.{reply_of}
 use Rattle.eden_objects.specs.Objects.{Held}
 use Rattle.eden_query.specs.declared.raw.Raw.{Raw}
-use Rattle.eden_query.specs.Raws.{patterns_of, told}
+use Rattle.eden_query.specs.Raws.{patterns_of, told, wanted_told}
+use Rattle.eden_wire.specs.declared.question.Wants.{Wants}
+use Rattle.eden_wire.specs.Wanted.{wanted_of}
 
 -- The server has taken one call fewer than the ticket says: it is the ticket's turn.
 abbrev pub IsTurnOf : {T : Type 0} → (T → Option ℕ) → ℕ → T → Type 0
@@ -32,10 +34,11 @@ pub record IsMade {T : Type 0} (Known : ℕ → T → Type 0) (name : Namer) (st
   pub gave : Gave (Known number) stands_for (λ world. answer ≡ answer_of name world change) (λ before after. apply_gives before caller change answer after)
 
 -- This was held of such a state, with its objects, for the caller's request. The two make the
--- reply.
-pub record IsHeld {T : Type 0} (Known : ℕ → T → Type 0) (stands_for : T → WorldState → Type 0) (held : T → List Held)
+-- reply, and what else is said of it.
+pub record IsHeld {T : Type 0} (Known : ℕ → T → Type 0) (name : Namer) (stands_for : T → WorldState → Type 0) (held : T → List Held)
     (hold_gives : T → ℕ → Request → Raw → T → Type 0) (caller number : ℕ) (request : Request) (raw : Raw) (objects : List Held) : Type 0 where
-  pub gave : Gave (Known number) stands_for (λ world. told objects (patterns_of request) raw ≡ reply_of world request)
+  pub gave : Gave (Known number) stands_for (λ world. (told objects (patterns_of request) raw ≡ reply_of world request)
+      × ((wants : Wants) → wanted_told name objects (patterns_of request) wants raw ≡ wanted_of name world wants request))
       (λ before after. (objects ≡ held before) × hold_gives before caller request raw after)
 
 -- The caller asked the request of such a state, and this is the reply.
@@ -43,3 +46,11 @@ pub record IsTold {T : Type 0} (Known : ℕ → T → Type 0) (stands_for : T �
     (hold_gives : T → ℕ → Request → Raw → T → Type 0) (caller number : ℕ) (request : Request) (reply : Reply) : Type 0 where
   pub gave : Gave (Known number) stands_for (λ world. reply ≡ reply_of world request)
       (λ before after. (raw : Raw) × (reply ≡ told (held before) (patterns_of request) raw) × hold_gives before caller request raw after)
+
+-- The caller asked the request of such a state, this is the reply, and this body is said in its
+-- place.
+pub record IsSaid {T : Type 0} (Known : ℕ → T → Type 0) (name : Namer) (stands_for : T → WorldState → Type 0) (held : T → List Held)
+    (hold_gives : T → ℕ → Request → Raw → T → Type 0) (caller number : ℕ) (request : Request) (wants : Wants) (reply : Reply) (body : List ℕ) : Type 0 where
+  pub gave : Gave (Known number) stands_for (λ world. (reply ≡ reply_of world request) × (body ≡ wanted_of name world wants request))
+      (λ before after. (raw : Raw) × (reply ≡ told (held before) (patterns_of request) raw)
+      × (body ≡ wanted_told name (held before) (patterns_of request) wants raw) × hold_gives before caller request raw after)

@@ -6,7 +6,9 @@
 //! `Shared` is over a server that stores its history. Each call that is taken gets a ticket: the
 //! number of the call in the one order in which all were taken. What each caller did and was
 //! answered is in the log of its `Desk`. An audit says whether the logs agree with the history. The
-//! audited mount and the audit are eden_shared's, and are exported from here too.
+//! audited mount and the audit are eden_shared's, and are exported from here too. `serve_shared`
+//! answers the requests of a connection at a desk. `serve_shared_writable` also makes the changes
+//! that it asks for.
 //!
 //! `Unlogged` is over any server. No call has a number, and no caller has a log, so nothing grows
 //! with the number of calls, and no audit can be made. Proofs still count the changes: each reply
@@ -79,7 +81,7 @@ pub use crate::head_word::HeadWord;
 pub use crate::origin::Origin;
 pub use crate::pass::{CallersSpent, Pass, Passes};
 pub use crate::patience::{LONGEST, Peer, Present};
-pub use crate::serving::serve_shared;
+pub use crate::serving::{serve_shared, serve_shared_writable};
 pub use crate::shared::{PassMissing, Shared, Ticketed};
 pub use crate::unlogged::{Holding, PassOut, Unlogged};
 pub use crate::unlogged_serving::serve_unlogged;

@@ -5,7 +5,9 @@ ghost use Rattle.eden_history.specs.Outcome.{answer_of};
 ghost use Rattle.eden_history.specs.Worlds.{WorldState};
 ghost use Rattle.eden_messages.specs.Replies.{reply_of};
 ghost use Rattle.eden_objects.specs.Commits.{commit_map};
-ghost use Rattle.eden_query.specs.Raws.{NamesCommits, is_answerable, patterns_of, told};
+ghost use Rattle.eden_query.specs.Raws.{NamesCommits, is_answerable, patterns_of, told, wanted_told};
+ghost use Rattle.eden_wire.specs.declared.question.Wants.{Wants};
+ghost use Rattle.eden_wire.specs.Wanted.{wanted_of};
 ghost use Rattle.eden_shared.specs.Gives.{IsHeld, IsMade, IsTurnOf};
 ghost use Rattle.eden_shared.specs.Passes.{made_by};
 ghost use Rattle.eden_shared.specs.Reached.{IsDescended};
@@ -32,7 +34,8 @@ pub struct Ticketed<N: Naming + Drop> {
     pub ticket: u64,
     /// What the request asks for.
     pub raw: Raw,
-    /// The objects of then. With them, `eden_query::answer_request` makes the reply.
+    /// The objects of then. With them, `eden_query::answer_request` makes the reply, and
+    /// `eden_query::append_answer` what else is wanted.
     pub store: Store<N>,
     // They have every commit that it names, so that it can be answered.
     pub ghost commits: { ∥ NamesCommits (commit_map store) raw ∥₁ },
@@ -98,6 +101,8 @@ impl<N: Naming + Drop, T: Served<N>, L: Ledger> Locked<N, T, L> {
         ensures world { (world : WorldState) × T.stands_for self.old.object world }
         ensures told { IfOk result (λ ticketed. (world : WorldState) → T.stands_for self.old.object world
             → told ticketed.store (patterns_of request.now) ticketed.raw ≡ reply_of world request.now) }
+        ensures wanted { IfOk result (λ ticketed. (world : WorldState) → T.stands_for self.old.object world → (wants : Wants)
+            → wanted_told N.id ticketed.store (patterns_of request.now) wants ticketed.raw ≡ wanted_of N.id world wants request.now) }
         ensures objects { IfOk result (λ ticketed. ticketed.store ≡ T.held self.old.object) }
         ensures given { IfOk result (λ ticketed. T.hold_gives self.old.object pass.old.caller request.now ticketed.raw self.new.object) }
         ensures unchanged { OnErr result (pass.new ≡ pass.old) }
@@ -215,7 +220,7 @@ impl<N: Naming + Drop, T: Served<N>, L: Ledger> Shared<N, T, L> {
         ensures caller { pass.new.caller ≡ pass.old.caller }
         ensures share { OnOk result (pass.new.amount ≡ pass.old.amount + 1) }
         ensures ticket { IfOk result (λ ticketed. pass.new.amount ≤ ticketed.ticket) }
-        ensures held { IfOk result (λ ticketed. IsHeld (IsTurnOf T.stored) T.stands_for T.held T.hold_gives
+        ensures held { IfOk result (λ ticketed. IsHeld (IsTurnOf T.stored) N.id T.stands_for T.held T.hold_gives
             pass.old.caller ticketed.ticket request.now ticketed.raw ticketed.store) }
         ensures unchanged { OnErr result (pass.new ≡ pass.old) }
     {

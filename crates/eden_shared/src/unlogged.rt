@@ -35,7 +35,8 @@ const MOST_PASSES: u64 = 2047;
 pub struct Holding<N: Naming + Drop> {
     /// What the request asks for.
     pub raw: Raw,
-    /// The objects of then. With them, `eden_query::answer_request` makes the reply.
+    /// The objects of then. With them, `eden_query::answer_request` makes the reply, and
+    /// `eden_query::append_answer` what else is wanted.
     pub store: Store<N>,
     // They have every commit that it names, so that it can be answered.
     pub ghost commits: { ∥ NamesCommits (commit_map store) raw ∥₁ },
@@ -77,7 +78,7 @@ impl<N: Naming + Drop, T: Served<N>, L: Origin> Tallied<N, T, L> {
     fn hold(&mut self, request: &Request) -> Result<Holding<N>, NoMemory>
         ensures total { self.new.book.total ≡ self.old.book.total }
         ensures stands { (world : WorldState) → T.stands_for self.old.object world → T.stands_for self.new.object world }
-        ensures held { IfOk result (λ holding. IsHeld (IsReached N.id T.stands_for L.opens) T.stands_for T.held T.hold_gives
+        ensures held { IfOk result (λ holding. IsHeld (IsReached N.id T.stands_for L.opens) N.id T.stands_for T.held T.hold_gives
             0 self.old.book.total request.now holding.raw holding.store) }
         ensures unchanged { OnErr result (self.new.object ≡ self.old.object) }
     {
@@ -174,7 +175,7 @@ impl<N: Naming + Drop, T: Served<N>, L: Origin> Unlogged<N, T, L> {
     /// Returns what `Served::hold` gives. The reply is made of the two without the lock, whatever
     /// is changed meanwhile. No change is made. `NoMemory` if an allocation fails.
     pub fn hold(&self, rt: &impl Wait, request: &Request) -> Result<Holding<N>, NoMemory>
-        ensures { IfOk result (λ holding. (number : ℕ) × IsHeld (IsReached N.id T.stands_for L.opens) T.stands_for T.held T.hold_gives
+        ensures { IfOk result (λ holding. (number : ℕ) × IsHeld (IsReached N.id T.stands_for L.opens) N.id T.stands_for T.held T.hold_gives
             0 number request.now holding.raw holding.store) }
     {
         self.held.lock(rt).hold(request)

@@ -6,24 +6,25 @@ ghost use Rattle.eden_stream.specs.Counts.{Rose, RoseBy};
 ghost use Rattle.eden_stream.specs.FrameTellings.{EndsTelling};
 ghost use Rattle.eden_messages.specs.declared.message.Query.{Query};
 ghost use Rattle.eden_stream.specs.Frames.{body_limit, frame};
-ghost use Rattle.eden_wire.specs.Commands.{done_bytes};
+ghost use Rattle.eden_wire.specs.Commands.{ListsInOrder, done_bytes};
 ghost use Rattle.eden_wire.specs.declared.command.Command.TheVariants as commands;
 ghost use Rattle.eden_shared.specs.Commands.{EndsSo, MakesUnsaid, Reads, Says, SaysReply, changes_of, counting, unlogged_story};
-ghost use Rattle.eden_shared.specs.Gives.{IsMade, IsTold};
+ghost use Rattle.eden_shared.specs.Gives.{IsMade, IsSaid};
 ghost use Rattle.eden_shared.specs.Reached.{IsReached};
 ghost use Rattle.eden_shared.specs.internal.Steps.{UnloggedStep};
 
 use crate::origin::Origin;
 use crate::pass::Pass;
 use crate::patience::{Peer, patience_of};
-use crate::unlogged::Unlogged;
+use crate::unlogged::{Holding, Unlogged};
 use eden_history::Change;
 use eden_ids::{Naming, NoMemory};
-use eden_query::{Served, UnitNaming, fault_of_frame};
+use eden_messages::request_text_law;
+use eden_query::{Served, UnitNaming, append_answer, fault_of_frame};
 use eden_stream::{
     CountedRead, CountedWrite, FrameFault, Frames, ServeFault, Step, Teller, tell_frames,
 };
-use eden_wire::{Asked, Command, Doing, Done, append_done, append_wanted, decode_command};
+use eden_wire::{Asked, Command, Doing, Done, Wants, append_done, append_wanted, decode_command};
 use std::alloc::Global;
 use std::sync::Wait;
 use std::time::Clock;
@@ -37,23 +38,33 @@ struct UnloggedTeller<'a, N: Naming + Drop, T: Served<N>, L: Origin, P: Peer, R:
     peer: &'a P,
 }
 
-/// Asks a question, and adds the frame of what it wants of the reply to a text.
+/// Asks a question, and adds the frame of what is said to it to a text.
 fn ask<N: UnitNaming + Drop, T: Served<N>, L: Origin, P: Peer, R: Wait + Clock>(
     asker: &UnloggedTeller<N, T, L, P, R>,
     asked: Asked,
     text: &mut Vec<u8>,
 ) -> Result<(), NoMemory>
-    ensures said { OnOk result ((said : List ℕ) × SaysReply N.id (IsTold (IsReached N.id T.stands_for L.opens) T.stands_for T.held T.hold_gives 0) asked.question said
+    ensures said { OnOk result ((said : List ℕ) × SaysReply (IsSaid (IsReached N.id T.stands_for L.opens) N.id T.stands_for T.held T.hold_gives 0) asked.question said
         × (text.new.items ≡ text.old.items ++ frame said)) }
     ensures front { KeepsFront text.old.items text.new.items }
 {
     let patience = patience_of(asked.patience);
     let (request, wants) = asked.question.into_request();
-    let reply = asker
-        .unlogged
-        .ask_patiently(asker.rt, &request, patience, asker.peer)?;
-    append_wanted(text, &N::unit(), wants, reply)?;
-    Ok(())
+    match wants {
+        Wants::Whole | Wants::Stat => {
+            let reply = asker
+                .unlogged
+                .ask_patiently(asker.rt, &request, patience, asker.peer)?;
+            append_wanted(text, &N::unit(), wants, reply)?;
+            Ok(())
+        }
+        // These wait for nothing, and no reply is made.
+        Wants::Attributes | Wants::Status => {
+            request_text_law(&request);
+            let Holding { raw, store, .. } = asker.unlogged.hold(asker.rt, &request)?;
+            append_answer(text, wants, raw, &store, &request)
+        }
+    }
 }
 
 /// Makes a change with a caller's pass, if it has one, and returns how that ended.
@@ -64,6 +75,7 @@ fn make<N: Naming + Drop, T: Served<N>, L: Origin, P: Peer, R: Wait + Clock>(
     change: &Change,
 ) -> Result<Done, NoMemory>
     ensures ends { IfOk result (λ done. EndsSo (IsMade (IsReached N.id T.stands_for L.opens) N.id T.stands_for T.apply_gives 0) writing.old change.now done) }
+    ensures ordered { IfOk result (λ done. ListsInOrder done) }
     ensures fits { IfOk result (λ done. (query : Query) → length (done_bytes query done) ≤ body_limit) }
     ensures counted { OnOk result (writing.new ≡ counting 1 writing.old) }
     ensures unchanged { OnErr result (writing.new ≡ writing.old) }
@@ -81,7 +93,7 @@ fn change<N: Naming + Drop, T: Served<N>, L: Origin, P: Peer, R: Wait + Clock>(
     doing: &Doing,
     text: &mut Vec<u8>,
 ) -> Result<(), NoMemory>
-    ensures said { OnOk result ((said : List ℕ) × Says (SaysReply N.id (IsTold (IsReached N.id T.stands_for L.opens) T.stands_for T.held T.hold_gives 0))
+    ensures said { OnOk result ((said : List ℕ) × Says (SaysReply (IsSaid (IsReached N.id T.stands_for L.opens) N.id T.stands_for T.held T.hold_gives 0))
         (IsMade (IsReached N.id T.stands_for L.opens) N.id T.stands_for T.apply_gives 0) writing.old (commands.Do doing.now) said
         × (text.new.items ≡ text.old.items ++ frame said)) }
     ensures counted { OnOk result (writing.new ≡ counting 1 writing.old) }
@@ -101,7 +113,7 @@ fn answer<N: UnitNaming + Drop, T: Served<N>, L: Origin, P: Peer, R: Wait + Cloc
     command: Command,
     text: &mut Vec<u8>,
 ) -> Result<(), NoMemory>
-    ensures said { OnOk result ((said : List ℕ) × Says (SaysReply N.id (IsTold (IsReached N.id T.stands_for L.opens) T.stands_for T.held T.hold_gives 0))
+    ensures said { OnOk result ((said : List ℕ) × Says (SaysReply (IsSaid (IsReached N.id T.stands_for L.opens) N.id T.stands_for T.held T.hold_gives 0))
         (IsMade (IsReached N.id T.stands_for L.opens) N.id T.stands_for T.apply_gives 0) writing.old command said
         × (text.new.items ≡ text.old.items ++ frame said)) }
     ensures counted { OnOk result (writing.new ≡ counting (changes_of command) writing.old) }
@@ -123,7 +135,7 @@ fn answer_body<N: UnitNaming + Drop, T: Served<N>, L: Origin, P: Peer, R: Wait +
     body: &[u8],
     text: &mut Vec<u8>,
 ) -> Step<FrameFault>
-    ensures { UnloggedStep (SaysReply N.id (IsTold (IsReached N.id T.stands_for L.opens) T.stands_for T.held T.hold_gives 0))
+    ensures { UnloggedStep (SaysReply (IsSaid (IsReached N.id T.stands_for L.opens) N.id T.stands_for T.held T.hold_gives 0))
         (IsMade (IsReached N.id T.stands_for L.opens) N.id T.stands_for T.apply_gives 0)
         writing.old writing.new body.now text.old.items text.new.items result }
 {
@@ -148,7 +160,7 @@ impl<'a, N: UnitNaming + Drop, T: Served<N>, L: Origin, P: Peer, R: Wait + Clock
     Option<Pass<L>>,
     FrameFault,
 > for UnloggedTeller<'a, N, T, L, P, R> {
-    ghost story = { λ _ before now. unlogged_story (SaysReply N.id (IsTold (IsReached N.id T.stands_for L.opens) T.stands_for T.held T.hold_gives 0))
+    ghost story = { λ _ before now. unlogged_story (SaysReply (IsSaid (IsReached N.id T.stands_for L.opens) N.id T.stands_for T.held T.hold_gives 0))
         (IsMade (IsReached N.id T.stands_for L.opens) N.id T.stands_for T.apply_gives 0) before now };
 
     fn answer(
@@ -214,7 +226,7 @@ pub fn serve_unlogged<
     writing: &mut Option<Pass<L>>,
     peer: &P,
 ) -> Result<u64, ServeFault>
-    ensures ends { EndsTelling (unlogged_story (SaysReply N.id (IsTold (IsReached N.id T.stands_for L.opens) T.stands_for T.held T.hold_gives 0))
+    ensures ends { EndsTelling (unlogged_story (SaysReply (IsSaid (IsReached N.id T.stands_for L.opens) N.id T.stands_for T.held T.hold_gives 0))
         (IsMade (IsReached N.id T.stands_for L.opens) N.id T.stands_for T.apply_gives 0) writing.old writing.new)
         (R.remaining reader.old) (R.remaining reader.new) (W.contents writer.old) (W.contents writer.new) result }
     ensures read { IsErrOf result ServeFault.Read → Rose (R.failed reader.old) (R.failed reader.new) }
