@@ -33,7 +33,7 @@ fn commit_of(labels: &Labels, label: &Label) -> Result<Id, Refusal>
     }
 }
 
-/// Returns the two paths that words are, or why the first that is none is not a path.
+/// Returns the two paths that words are, or why the first invalid one is not a path.
 fn paths_of(old: Word, new: Word) -> Result<(Path, Path), Refusal>
     ensures accepts { IfOk result (λ paths. (paths ≡ (old, new)) × (path_refusal old ≡ None) × (path_refusal new ≡ None)) }
     ensures refuses { IfErr result (λ cause. option_or (path_refusal old) (path_refusal new) ≡ Some cause) }

@@ -9,7 +9,8 @@ ghost use Rattle.eden_script.specs.Sessions.{commit_payload, object_of, object_w
 ghost use Rattle.eden_edend.specs.internal.Standing.{session_of, session_put, Gave};
 
 use crate::labels::Labels;
-use eden_ids::{GitNaming, Id, NoMemory, Sequence};
+use bytes::Bytes;
+use eden_ids::{GitNaming, Id, NoMemory};
 use eden_objects::{Object, ObjectType, PutFault, Store};
 use eden_script::{Label, PutLine, Refusal, Told, TreeEntry, push_bytes, push_id};
 use std::alloc::{AllocError, Global};
@@ -59,16 +60,22 @@ fn commit_payload(alloc: Global, tree: Option<Id>) -> Result<Option<Vec<u8>>, Al
     Ok(Some(payload))
 }
 
-/// Returns the object of this type, if there is a payload.
-fn object_with(object_type: ObjectType, payload: Option<Vec<u8>>) -> Option<Object>
-    ensures { result ≡ object_with object_type (option_map (λ v. v.items) payload) }
+/// Returns the object of this type, if there is a payload, which is moved.
+fn object_with(
+    object_type: ObjectType,
+    payload: Option<Vec<u8>>,
+) -> Result<Option<Object>, NoMemory>
+    ensures { IfOk result (λ object. object ≡ object_with object_type (option_map (λ v. v.items) payload)) }
 {
     match payload {
-        Some(payload) => Some(Object {
-            object_type,
-            payload: Sequence::from_vec(payload),
-        }),
-        None => None,
+        Some(payload) => {
+            let payload = Bytes::from_vec(payload)?;
+            Ok(Some(Object {
+                object_type,
+                payload,
+            }))
+        }
+        None => Ok(None),
     }
 }
 
@@ -79,28 +86,23 @@ pub(crate) fn object_of(
     alloc: Global,
     labels: &Labels,
     line: PutLine,
-) -> Result<(Label, Option<Object>), AllocError>
+) -> Result<(Label, Option<Object>), NoMemory>
     ensures { IfOk result (λ named. named ≡ (put_label line, object_of labels.now line)) }
 {
     match line {
         PutLine::Blob { label, bytes } => {
-            let payload = Sequence::from_vec(bytes.into_bytes());
-            let object_type = ObjectType::Blob;
-            Ok((
-                label,
-                Some(Object {
-                    object_type,
-                    payload,
-                }),
-            ))
+            let object = object_with(ObjectType::Blob, Some(bytes.into_bytes()))?;
+            Ok((label, object))
         }
         PutLine::Tree { label, entries } => {
             let payload = tree_payload(alloc, labels, entries.as_slice())?;
-            Ok((label, object_with(ObjectType::Tree, payload)))
+            let object = object_with(ObjectType::Tree, payload)?;
+            Ok((label, object))
         }
         PutLine::Commit { label, tree } => {
             let payload = commit_payload(alloc, labels.get(&tree))?;
-            Ok((label, object_with(ObjectType::Commit, payload)))
+            let object = object_with(ObjectType::Commit, payload)?;
+            Ok((label, object))
         }
     }
 }

@@ -22,7 +22,7 @@ use crate::questions::ask;
 use eden_accumulate::Mount;
 use eden_history::Answer;
 use eden_ids::{GitNaming, Id, NoMemory};
-use eden_objects::{Importer, Object, Store};
+use eden_objects::{Importer, Object, Payload, Store};
 use eden_script::{AskLine, ChangeLine, Command, Label, MountLine, PutLine, Refusal, Told, words};
 use eden_stream::{Answered, LineMachine};
 use std::alloc::{AllocError, Global};
@@ -104,14 +104,12 @@ impl Session {
         };
         match &mut self.mount {
             Some(mount) => {
-                let put = mount.put_object(object_type, payload.as_slice());
+                let put = mount.put_object(object_type, Payload::Shared(&payload));
                 bind_put(&mut self.objects.labels, label, put)
             }
             None => {
-                let put = self
-                    .objects
-                    .store
-                    .put_object(object_type, payload.as_slice());
+                let payload = Payload::Shared(&payload);
+                let put = self.objects.store.put_object(object_type, payload);
                 bind_put(&mut self.objects.labels, label, put)
             }
         }

@@ -4,7 +4,7 @@ use crate::ends::{EDEND, VERSION};
 use crate::options::{number_of, number_option, optional_number, place_of, with_place};
 use clap::error::ErrorKind;
 use clap::{Arg, ArgAction, ArgMatches, Command, Error};
-use eden_serve::{Terms, Until};
+use eden_serve::{Desks, Terms, Until};
 use eden_sockets::Place;
 use std::alloc::Global;
 use std::time::Duration;
@@ -60,7 +60,8 @@ reply is not read within it. Between two frames it may wait for any time. If all
 N are taken, one more waits for the limit at most.
 
 With --writable, connections can change the mount too (docs/formats.md). Each
-change is answered. The memory then grows with what they write.";
+change is answered, and without --stay the audit includes it. The memory then
+grows with what they write.";
 
 /// What `--objects` is for.
 const ABOUT_OBJECTS: &str = "Put these objects first, in the form that
@@ -147,9 +148,8 @@ fn serve_command<'a>(alloc: Global) -> Result<Command<'a>, Error> {
     .requires_arg("stay")?;
     let writable = Arg::new(alloc, "writable")
         .long("writable")
-        .help("With --socket and --stay, let connections change the mount")
+        .help("With --socket, let connections change the mount")
         .action(ArgAction::SetTrue)
-        .requires_arg("stay")?
         .conflicts_with("port")?;
     let verbose = Arg::new(alloc, "verbose")
         .long("verbose")
@@ -182,6 +182,7 @@ fn service_of(
     let place = place_of(alloc, command, serve)?;
     let connections = number_of(command, serve, "connections")?;
     let stays = serve.get_flag("stay");
+    let writable = serve.get_flag("writable");
     if !stays && connections > MOST_CONNECTIONS {
         let limit = "without --stay there are at most 64 connections";
         return Err(command.error(ErrorKind::ValueValidation, limit)?);
@@ -190,10 +191,13 @@ fn service_of(
         Until::Input(Terms {
             threads: connections,
             limit: Duration::from_secs(number_of(command, serve, "limit")?),
-            writable: serve.get_flag("writable"),
+            writable,
         })
     } else {
-        Until::Connections(connections)
+        Until::Connections(Desks {
+            count: connections,
+            writable,
+        })
     };
     Ok(Service {
         place,

@@ -10,7 +10,7 @@ use eden_batch::{ObjectFault, ObjectsFault, read_objects};
 use eden_edend::Objects;
 use eden_git::{ObjectType, RawEntry, read_entry, tree_named};
 use eden_ids::{GitNaming, Id, Naming, NoMemory};
-use eden_objects::{Importer, PutFault, Store};
+use eden_objects::{Importer, Payload, PutFault, Store};
 use eden_stream::Counted;
 use std::alloc::Global;
 use std::io::{Read, Write};
@@ -154,9 +154,14 @@ impl Importer for Filled {
 
     ghost laws = { record { same = λ filled. refl; again = λ filled held more. refl } };
 
-    fn put_object(&mut self, object_type: ObjectType, payload: &[u8]) -> Result<Id, PutFault> {
+    fn put_object(
+        &mut self,
+        object_type: ObjectType,
+        payload: Payload<'_>,
+    ) -> Result<Id, PutFault> {
         let put = self.store.put_object(object_type, payload);
         if let Err(cause) = put {
+            let payload = payload.as_slice();
             let id = GitNaming.id_of(object_type.text(), payload);
             self.refused = Some(Refused {
                 object: Named { object_type, id },

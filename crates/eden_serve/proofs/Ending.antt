@@ -11,6 +11,7 @@ use Rattle.eden_logs.specs.declared.fault.AuditFault.{AuditFault}
 use Rattle.eden_serve.specs.declared.fault.DaemonFault.{DaemonFault}
 use Rattle.eden_serve.specs.declared.fault.DaemonFault.TheVariants.{Script, NoConnection, Audit}
 use Rattle.eden_serve.specs.declared.program.Until.{Until}
+use Rattle.eden_serve.specs.declared.program.Desks.{Desks}
 use Rattle.eden_serve.specs.declared.program.Until.TheVariants.{Connections}
 use Rattle.eden_script.specs.declared.label.Binding.{Binding}
 use Rattle.eden_sockets.specs.declared.place.Place.{Place}
@@ -51,15 +52,15 @@ module _ (labels : List Binding) (from : ℕ) (until : Until) (input w0 w1 : Opt
   all_ended number ran written = (number, ran, written)
 
 -- an audit that has failed
-pub audit_failed : (labels : List Binding) (from count : ℕ) (input w0 w1 : Option (List ℕ)) (fault : DaemonFault) → AuditFails w0 w1 fault
-    → ServingEnds labels from (Connections count) input w0 w1 (Err fault)
-audit_failed labels from count input w0 w1 (Script Write) failed = (tt, failed)
-audit_failed labels from count input w0 w1 (Script NoMemory) failed = inl failed
-audit_failed labels from count input w0 w1 (Audit found) failed = (tt, failed.0, failed.1)
-audit_failed labels from count input w0 w1 (Script (BadLine number)) failed = absurd failed
-audit_failed labels from count input w0 w1 (Script Read) failed = absurd failed
-audit_failed labels from count input w0 w1 (Script TurnsSpent) failed = absurd failed
-audit_failed labels from count input w0 w1 NoConnection failed = absurd failed
+pub audit_failed : (labels : List Binding) (from : ℕ) (desks : Desks) (input w0 w1 : Option (List ℕ)) (fault : DaemonFault) → AuditFails w0 w1 fault
+    → ServingEnds labels from (Connections desks) input w0 w1 (Err fault)
+audit_failed labels from desks input w0 w1 (Script Write) failed = (tt, failed)
+audit_failed labels from desks input w0 w1 (Script NoMemory) failed = inl failed
+audit_failed labels from desks input w0 w1 (Audit found) failed = (tt, failed.0, failed.1)
+audit_failed labels from desks input w0 w1 (Script (BadLine number)) failed = absurd failed
+audit_failed labels from desks input w0 w1 (Script Read) failed = absurd failed
+audit_failed labels from desks input w0 w1 (Script TurnsSpent) failed = absurd failed
+audit_failed labels from desks input w0 w1 NoConnection failed = absurd failed
 
 module _ (labels : List Binding) (from : ℕ) (until : Until) (input w : Option (List ℕ)) where
   pub no_connection : ServingEnds labels from until input w w (Err NoConnection)

@@ -40,11 +40,11 @@ audit_text (Err audit.NoMemory) = []
 
 -- what is written at the end: after a number of connections, what the audit found
 abbrev pub last_text : Until → Result ⊤ AuditFault → List ℕ
-last_text (Connections count) found = audit_text found
+last_text (Connections desks) found = audit_text found
 last_text (Input terms) found = []
 
 abbrev pub IsAudited : Until → Type 0
-IsAudited (Connections count) = ⊤
+IsAudited (Connections desks) = ⊤
 IsAudited (Input terms) = ⊥
 
 -- The script has opened this at `listen`. What its lines print is written, and where connections

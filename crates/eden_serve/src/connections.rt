@@ -3,17 +3,21 @@
 ghost use Rattle.std.specs.Prelude.{◌≡◌, ℕ, List, [], Option, Err, IfOk, IfErr};
 ghost use Rattle.eden_script.specs.declared.label.Binding.{Binding};
 ghost use Rattle.eden_serve.specs.Endings.{Ran, ServingEnds};
+ghost use Rattle.eden_serve.specs.declared.program.Desks.{Desks};
 
 use crate::auditing::close;
 use crate::changes::{AtDesk, AuditedMount, Lines, ObservedChanger, Service};
 use crate::end_of_lines::end_lines;
 use crate::fault::DaemonFault;
 use crate::observing::Observer;
-use crate::program::Until;
+use crate::program::{Desks, Until};
 use eden_accumulate::Mount;
 use eden_edend::run_changes;
 use eden_ids::{GitNaming, NoMemory};
-use eden_shared::{Audited, CallLog, CallersSpent, Desk, OpenGate, Pass, Shared, serve_shared};
+use eden_shared::{
+    Audited, CallLog, CallersSpent, Desk, OpenGate, Pass, Shared, serve_shared,
+    serve_shared_writable,
+};
 use eden_sockets::{Listener, Stream};
 use eden_stream::{Counted, CountedRead, CountedWrite, RunFault, ServeFault};
 use std::alloc::Global;
@@ -59,26 +63,47 @@ impl<L: Ledger> Kept<L> {
     }
 }
 
+/// What a connection's thread begins with.
+#[derive(Drop)]
+struct Serving<L: Ledger> {
+    desk: Desk<L>,
+    /// Whether the connection may change the mount.
+    writable: bool,
+}
+
 /// Serves a connection to its end. The observer hears of a frame that can't be answered.
 fn serve_one<L: Ledger, V: Observer>(
     rt: &impl Wait,
     alloc: Global,
     shared: &AuditedMount<L>,
-    mut desk: Desk<L>,
+    serving: Serving<L>,
     stream: Stream,
     observer: &V,
 ) -> Desk<L> {
+    let Serving { mut desk, writable } = serving;
     let mut reader = Counted::new(&stream);
     let mut writer = Counted::new(&stream);
-    let served = serve_shared(
-        rt,
-        alloc,
-        &mut reader,
-        &mut writer,
-        shared,
-        &mut desk,
-        &OpenGate,
-    );
+    let served = if writable {
+        serve_shared_writable(
+            rt,
+            alloc,
+            &mut reader,
+            &mut writer,
+            shared,
+            &mut desk,
+            &OpenGate,
+        )
+    } else {
+        serve_shared(
+            rt,
+            alloc,
+            &mut reader,
+            &mut writer,
+            shared,
+            &mut desk,
+            &OpenGate,
+        )
+    };
     if let Err(ServeFault::Frame { number, fault }) = served {
         observer.frame_refused(number, fault);
     }
@@ -95,13 +120,14 @@ fn accept_one<'s, E, L: Ledger + Send + Sync + 's, R: Threads + Wait + Sync, V: 
     alloc: Global,
     shared: &'s AuditedMount<L>,
     listener: &Listener,
-    desk: Desk<L>,
+    serving: Serving<L>,
     observer: &'s V,
 ) -> Result<JoinHandle<Desk<L>>, Desk<L>> {
     let Ok(stream) = listener.accept() else {
+        let Serving { desk, .. } = serving;
         return Err(desk);
     };
-    match scope.spawn(move || serve_one(rt, alloc, shared, desk, stream, observer)) {
+    match scope.spawn(move || serve_one(rt, alloc, shared, serving, stream, observer)) {
         Ok(thread) => Ok(thread),
         Err(kept) => Err((kept.value)()),
     }
@@ -114,13 +140,13 @@ fn accept_all<'s, E, L: Ledger + Send + Sync + 's, R: Threads + Wait + Sync, V: 
     alloc: Global,
     shared: &'s AuditedMount<L>,
     listener: &Listener,
-    desks: Vec<Desk<L>>,
+    servings: Vec<Serving<L>>,
     observer: &'s V,
 ) -> Result<Kept<L>, NoMemory> {
     let mut kept = Kept::new(alloc);
     let mut threads = Vec::new(alloc);
-    for desk in desks {
-        match accept_one(scope, rt, alloc, shared, listener, desk, observer) {
+    for serving in servings {
+        match accept_one(scope, rt, alloc, shared, listener, serving, observer) {
             Ok(thread) => threads.push(thread)?,
             Err(desk) => kept.add(desk)?,
         }
@@ -135,14 +161,14 @@ fn serve_all<L: Ledger + Send + Sync, R: Threads + Wait + Sync, V: Observer + Sy
     alloc: Global,
     shared: &AuditedMount<L>,
     listener: &Listener,
-    desks: Vec<Desk<L>>,
+    servings: Vec<Serving<L>>,
     observer: &V,
 ) -> Result<Kept<L>, NoMemory> {
     thread::scope(
         thread::scope_env(),
         rt,
         |scope| -> Result<Kept<L>, NoMemory> {
-            accept_all(scope, rt, alloc, shared, listener, desks, observer)
+            accept_all(scope, rt, alloc, shared, listener, servings, observer)
         },
     )
 }
@@ -216,7 +242,7 @@ fn run_threads<
     alloc: Global,
     shared: &AuditedMount<L>,
     listener: &Listener,
-    desks: Vec<Desk<L>>,
+    servings: Vec<Serving<L>>,
     writing: Writing<'_, L, I>,
     observer: &V,
 ) -> Result<Ended<L>, NoMemory>
@@ -225,7 +251,7 @@ fn run_threads<
     let (wrote, kept) = thread::join(
         rt,
         move || write_lines(rt, alloc, shared, writing, observer),
-        move || serve_all(rt, alloc, shared, listener, desks, observer),
+        move || serve_all(rt, alloc, shared, listener, servings, observer),
     );
     let Wrote { desk, ran } = wrote;
     let mut kept = kept?;
@@ -253,26 +279,30 @@ fn open_desk<L: Ledger>(
     Ok(Desk::new(alloc, pass))
 }
 
-/// Opens this many desks at a lock.
+/// Opens a desk at a lock for each connection.
 #[tactic(auto, using(crate::proofs::Ending::no_connection, crate::proofs::Ending::no_memory))]
 fn open_desks<L: Ledger>(
     rt: &impl Wait,
     alloc: Global,
     shared: &AuditedMount<L>,
-    count: u64,
-) -> Result<Vec<Desk<L>>, DaemonFault>
-    ensures { IfErr result (λ fault. (w : Option (List ℕ)) → (labels : List Binding) (from : ℕ) (r : Option (List ℕ)) → ServingEnds labels from (Until.Connections count) r w w (Err fault)) }
+    desks: Desks,
+) -> Result<Vec<Serving<L>>, DaemonFault>
+    ensures { IfErr result (λ fault. (w : Option (List ℕ)) → (labels : List Binding) (from : ℕ) (r : Option (List ℕ)) → ServingEnds labels from (Until.Connections desks) r w w (Err fault)) }
 {
-    let mut desks = Vec::new(alloc);
-    for _ in 0..count {
+    let mut servings = Vec::new(alloc);
+    for _ in 0..desks.count {
         let Ok(desk) = open_desk(rt, alloc, shared) else {
             return Err(DaemonFault::NoConnection);
         };
-        if desks.push(desk).is_err() {
+        let serving = Serving {
+            desk,
+            writable: desks.writable,
+        };
+        if servings.push(serving).is_err() {
             return Err(DaemonFault::Script(RunFault::NoMemory));
         }
     }
-    Ok(desks)
+    Ok(servings)
 }
 
 /// Opens a desk for the lines and one for each connection, and runs all threads to their ends.
@@ -288,21 +318,21 @@ fn run_desks<
     shared: &AuditedMount<L>,
     listener: &Listener,
     lines: Lines<'_, I>,
-    count: u64,
+    desks: Desks,
     observer: &V,
 ) -> Result<Ended<L>, DaemonFault>
     ensures ran { IfOk result (λ ended. Ran lines.entry.labels lines.entry.from (I.remaining lines.entry.input.now) ended.ran) }
-    ensures unwritten { IfErr result (λ fault. (w : Option (List ℕ)) → (labels : List Binding) (from : ℕ) (r : Option (List ℕ)) → ServingEnds labels from (Until.Connections count) r w w (Err fault)) }
+    ensures unwritten { IfErr result (λ fault. (w : Option (List ℕ)) → (labels : List Binding) (from : ℕ) (r : Option (List ℕ)) → ServingEnds labels from (Until.Connections desks) r w w (Err fault)) }
 {
     let Ok(desk) = open_desk(rt, alloc, shared) else {
         return Err(DaemonFault::NoConnection);
     };
-    let desks = match open_desks(rt, alloc, shared, count) {
-        Ok(desks) => desks,
+    let servings = match open_desks(rt, alloc, shared, desks) {
+        Ok(servings) => servings,
         Err(fault) => return Err(fault),
     };
     let writing = Writing { desk, lines };
-    match run_threads(rt, alloc, shared, listener, desks, writing, observer) {
+    match run_threads(rt, alloc, shared, listener, servings, writing, observer) {
         Ok(ended) => Ok(ended),
         Err(_) => Err(DaemonFault::Script(RunFault::NoMemory)),
     }
@@ -316,7 +346,7 @@ fn end<L: Ledger, W: CountedWrite>(
     ended: Ended<L>,
     writer: &mut W,
 ) -> Result<(), DaemonFault>
-    ensures { (labels : List Binding) → (from count : ℕ) (input : Option (List ℕ)) → Ran labels from input ended.ran → ServingEnds labels from (Until.Connections count) input (W.contents writer.old) (W.contents writer.new) result }
+    ensures { (labels : List Binding) → (from : ℕ) (desks : Desks) (input : Option (List ℕ)) → Ran labels from input ended.ran → ServingEnds labels from (Until.Connections desks) input (W.contents writer.old) (W.contents writer.new) result }
 {
     let Ended { kept, ran } = ended;
     let Kept { passes, logs } = kept;
@@ -326,7 +356,7 @@ fn end<L: Ledger, W: CountedWrite>(
     }
 }
 
-/// Serves this many connections at a lock while the lines run, and audits them.
+/// Serves connections at a lock while the lines run, and audits them.
 ///
 /// The lock is owned here, and only lent to what can fail: each way out drops all that it holds.
 fn serve_locked<
@@ -341,19 +371,19 @@ fn serve_locked<
     shared: AuditedMount<L>,
     listener: &Listener,
     lines: Lines<'_, I>,
-    count: u64,
+    desks: Desks,
     writer: &mut W,
     observer: &V,
 ) -> Result<(), DaemonFault>
-    ensures { ServingEnds lines.entry.labels lines.entry.from (Until.Connections count) (I.remaining lines.entry.input.now) (W.contents writer.old) (W.contents writer.new) result }
+    ensures { ServingEnds lines.entry.labels lines.entry.from (Until.Connections desks) (I.remaining lines.entry.input.now) (W.contents writer.old) (W.contents writer.new) result }
 {
-    match run_desks(rt, alloc, &shared, listener, lines, count, observer) {
+    match run_desks(rt, alloc, &shared, listener, lines, desks, observer) {
         Ok(ended) => end(alloc, shared, ended, writer),
         Err(fault) => Err(fault),
     }
 }
 
-/// Serves this many connections while the lines run, audits them, and writes what that found.
+/// Serves connections while the lines run, audits them, and writes what that found.
 ///
 /// It is as `serve_listener` says, with this kind of ledger in the lock.
 #[tactic(auto, using(crate::proofs::Ending::no_memory))]
@@ -368,14 +398,14 @@ pub(crate) fn serve_connections<
     alloc: Global,
     blank: Blank,
     service: Service<'_, I>,
-    count: u64,
+    desks: Desks,
     writer: &mut W,
     observer: &V,
 ) -> Result<(), DaemonFault>
     requires name { blank.name ≡ L.name }
     requires parts { blank.parts ≡ L.parts }
     requires whole { blank.parts ≡ 256 }
-    ensures ends { ServingEnds service.entry.lines.labels service.entry.lines.from (Until.Connections count) (I.remaining service.entry.lines.input.now) (W.contents writer.old) (W.contents writer.new) result }
+    ensures ends { ServingEnds service.entry.lines.labels service.entry.lines.from (Until.Connections desks) (I.remaining service.entry.lines.input.now) (W.contents writer.old) (W.contents writer.new) result }
 {
     let Service {
         mount,
@@ -385,7 +415,7 @@ pub(crate) fn serve_connections<
     match store_history(alloc, mount) {
         Ok(audited) => {
             let shared: AuditedMount<L> = Shared::new(audited, blank);
-            serve_locked(rt, alloc, shared, &listener, lines, count, writer, observer)
+            serve_locked(rt, alloc, shared, &listener, lines, desks, writer, observer)
         }
         Err(_) => Err(DaemonFault::Script(RunFault::NoMemory)),
     }

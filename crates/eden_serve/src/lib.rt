@@ -4,11 +4,11 @@
 //! A script makes a mount up to its line `listen`. Then the mount is served to connections, while
 //! the lines after `listen` change it. `Until` says how long: for a number of connections, after
 //! which an audit compares what all callers noted with the mount's history; or as long as there is
-//! input, while nothing is noted. Then connections may change the mount too, if the `Terms` say so.
+//! input, while nothing is noted. Connections may change the mount too, if `Desks` or `Terms` say so.
 //!
 //! ```rust
 //! use eden_edend::Objects;
-//! use eden_serve::{Daemon, ScriptInput, Unobserved, Until, run_daemon};
+//! use eden_serve::{Daemon, Desks, ScriptInput, Unobserved, Until, run_daemon};
 //! use eden_sockets::Place;
 //! use eden_stream::Counted;
 //!
@@ -20,7 +20,10 @@
 //! let daemon = Daemon {
 //!     objects: Objects::new(alloc),
 //!     place: Place::Port(port),
-//!     until: Until::Connections(0),
+//!     until: Until::Connections(Desks {
+//!         count: 0,
+//!         writable: false,
+//!     }),
 //! };
 //! let ended = run_daemon(rt, alloc, daemon, &mut input, &mut writer, &Unobserved);
 //! assert_eq!(rt; ended, Ok(()));
@@ -33,7 +36,7 @@ pub use crate::fault::DaemonFault;
 pub use crate::input::ScriptInput;
 pub use crate::listening::{Listening, listen};
 pub use crate::observing::{Observer, Unobserved};
-pub use crate::program::{Daemon, Terms, Until, run_daemon, serve_listener, serve_program};
+pub use crate::program::{Daemon, Desks, Terms, Until, run_daemon, serve_listener, serve_program};
 pub use crate::stopping::Stoppable;
 pub use crate::timely::Timely;
 

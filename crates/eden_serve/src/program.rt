@@ -1,6 +1,6 @@
 //! The program: a script, a listener, and the connections.
 
-ghost use Rattle.std.specs.Prelude.{◌⊎◌, Err, IsErrOf};
+ghost use Rattle.std.specs.Prelude.{◌⊎◌, Err, IsErrOf, false};
 ghost use Rattle.eden_script.specs.ScriptText.{script_text};
 ghost use Rattle.eden_script.specs.Sessions.{first_session, session_over};
 ghost use Rattle.eden_serve.specs.Endings.{DaemonEnds, EndsServing, ServingEnds};
@@ -29,14 +29,24 @@ use std::time::{Clock, Duration};
 /// How long a daemon serves.
 #[derive(Clone, Copy, Debug, PartialEq, Eq)]
 pub enum Until {
-    /// Until this many connections have ended, each in a thread of its own.
+    /// Until some connections have ended, each in a thread of its own.
     ///
-    /// All requests and replies are noted, and audited at the end.
-    Connections(u64),
+    /// All requests and replies are noted, and audited at the end. So are the changes that
+    /// connections make, if they may.
+    Connections(Desks),
     /// Until the input has ended.
     ///
     /// Nothing is noted, so nothing grows with the number of calls or connections.
     Input(Terms),
+}
+
+/// How many connections are served, each at a desk.
+#[derive(Clone, Copy, Debug, PartialEq, Eq)]
+pub struct Desks {
+    /// How many connections.
+    pub count: u64,
+    /// Whether a connection may change the mount, as in `Terms`.
+    pub writable: bool,
 }
 
 /// How connections are served until the input has ended.
@@ -73,10 +83,11 @@ pub struct Daemon {
 /// The observer hears of each change of theirs that is refused and of each frame that can't be
 /// answered.
 ///
-/// - `Connections`: each connection is served by `eden_shared::serve_shared`, and one that can't be
-///   accepted counts as one that has ended. If no thread can be made, a connection is served before
-///   the next one is accepted, and the lines are run after the last. All callers note their calls
-///   and the answers. When all have ended, an audit compares these notes with the mount's history.
+/// - `Connections`: each connection is served by `eden_shared::serve_shared`, or by
+///   `serve_shared_writable` if it may change the mount. One that can't be accepted counts as one
+///   that has ended. If no thread can be made, a connection is served before the next one is
+///   accepted, and the lines are run after the last. All callers note their calls and the answers.
+///   When all have ended, an audit compares these notes with the mount's history.
 ///   `audit ok` is written if they agree, and else `audit` and the name of the fault. The observer
 ///   also hears of a line that can't be read.
 /// - `Input`: each thread accepts the next connection when its last one has ended. If not all of
@@ -139,12 +150,12 @@ pub fn serve_listener<
         lines,
     };
     match until {
-        Until::Connections(count) => serve_connections::<Brand, R, I, W, V>(
+        Until::Connections(desks) => serve_connections::<Brand, R, I, W, V>(
             rt,
             alloc,
             Blank::new(256),
             service,
-            count,
+            desks,
             writer,
             observer,
         ),
@@ -224,6 +235,8 @@ pub fn run_daemon<
 
 /// Runs a script as `run_daemon` does, over no objects, and serves this many connections.
 ///
+/// They can't change the mount.
+///
 /// # Errors
 ///
 /// As in `run_daemon`. `NoMemory` also if an allocation fails for the input. Nothing is read or
@@ -246,7 +259,7 @@ pub fn serve_program<
     place: Place,
     connections: u64,
 ) -> Result<(), DaemonFault>
-    ensures { DaemonEnds (script_text first_session) (Until.Connections connections) place (I.remaining input) (W.contents writer.old) (W.contents writer.new) result }
+    ensures { DaemonEnds (script_text first_session) (Until.Connections (record { count = connections; writable = false })) place (I.remaining input) (W.contents writer.old) (W.contents writer.new) result }
 {
     let Ok(mut input) = ScriptInput::new(alloc, input) else {
         return Err(DaemonFault::Script(RunFault::NoMemory));
@@ -254,7 +267,10 @@ pub fn serve_program<
     let daemon = Daemon {
         objects: Objects::new(alloc),
         place,
-        until: Until::Connections(connections),
+        until: Until::Connections(Desks {
+            count: connections,
+            writable: false,
+        }),
     };
     run_daemon(rt, alloc, daemon, &mut input, writer, &Unobserved)
 }

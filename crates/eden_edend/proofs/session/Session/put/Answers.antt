@@ -26,8 +26,7 @@ returns-in-Some-mount c =
     let label : c.in_ok-label.label ≡ put_label c.args.line = search rules in
     let put = c.put_object-put.ensures in
     let gave : Gave c.put_object-put.result there.held next.held (imports.put_of git_name object there.held) =
-    subst (λ payload. Gave c.put_object-put.result there.held next.held (imports.put_typed git_name object.object_type payload there.held)) c.as_slice.ensures
-    (put_gave c.put_object-put.result there.held next.held _ put.ok put.err put.refuses) in
+    put_gave c.put_object-put.result there.held next.held _ put.ok put.err put.refuses in
     put_told_late c.args.self.now.mount there next objects after c.args.line object c.bind_put.result c.in-Some-mount.is bound put.stands (λ world held h.
     subst (λ name. IfOk c.bind_put.result (λ came.
     put_acted (session_of (Some world) held objects.labels) name (imports.put_of git_name object world.held) ≡ (session_put (Some world) held next.held after.labels, came))) label
@@ -43,8 +42,7 @@ returns c =
     let label : c.in_ok-label.label ≡ put_label c.args.line = search rules in
     let put = c.put_object-put-in-None.ensures in
     let gave : Gave c.put_object-put-in-None.result objects.store after.store (imports.put_of git_name object objects.store) =
-    subst (λ payload. Gave c.put_object-put-in-None.result objects.store after.store (imports.put_typed git_name object.object_type payload objects.store)) c.as_slice-in-None.ensures
-    (put_gave c.put_object-put-in-None.result objects.store after.store _ put.ok put.err put.refuses) in
+    put_gave c.put_object-put-in-None.result objects.store after.store _ put.ok put.err put.refuses in
     put_told_early c.args.self.now.mount objects after c.args.line object c.bind_put-in-None.result c.in-None.is bound
     (subst (λ name. IfOk c.bind_put-in-None.result (λ came.
     put_acted (session_of None objects.store objects.labels) name (imports.put_of git_name object objects.store) ≡ (session_put None objects.store after.store after.labels, came))) label
