@@ -157,7 +157,7 @@ fn import(alloc: Global, made: &[Made]) -> Result<Change, AllocError> {
     for made in made {
         objects.push(Object {
             object_type: made.object_type,
-            payload: Sequence::from_vec(made.payload.as_slice().to_vec(alloc)?),
+            payload: Bytes::copy_from_slice(alloc, made.payload.as_slice())?,
         })?;
     }
     let objects = Sequence::from_vec(objects);

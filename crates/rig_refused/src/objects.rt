@@ -5,7 +5,7 @@ use crate::steps::OneFile;
 use crate::told::text_of;
 use anyhow::{Result, bail};
 use eden_ids::{GitNaming, Id, Naming, Path};
-use eden_objects::{CommitFault, Importer, ObjectType, PutFault, Store};
+use eden_objects::{CommitFault, Importer, ObjectType, Payload, PutFault, Store};
 use eden_treediff::diff;
 use std::alloc::{AllocError, Global};
 use test_kit::{commit_of, tree_of};
@@ -53,7 +53,7 @@ pub(crate) fn put(
     object_type: ObjectType,
     payload: &[u8],
 ) -> Result<Id, PutFault> {
-    store.put_object(object_type, payload)
+    store.put_object(object_type, Payload::Copied(payload))
 }
 
 /// A store, and what was put into it so far.

@@ -4,8 +4,9 @@
 #![tactic(auto)]
 
 use anyhow::Result;
+use bytes::Bytes;
 use eden_accumulate::Mount;
-use eden_ids::{GitNaming, Id, Naming, Path, Sequence};
+use eden_ids::{GitNaming, Id, Naming, Path};
 use eden_objects::{Object, ObjectType, Store};
 use rig_kit::{each, scattered};
 use std::alloc::Global;
@@ -76,7 +77,7 @@ fn put_all(rt: &HostRuntime) -> Result<()> {
 fn batch(alloc: Global, from: u64, size: u64) -> Result<Vec<Object>> {
     let mut objects = Vec::new(alloc);
     for number in from..from.saturating_add(size) {
-        let payload = Sequence::from_vec(blob(alloc, number)?);
+        let payload = Bytes::copy_from_slice(alloc, blob(alloc, number)?.as_slice())?;
         let object_type = ObjectType::Blob;
         objects.push(Object {
             object_type,

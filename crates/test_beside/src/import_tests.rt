@@ -1,5 +1,6 @@
 //! Imports that are made or refused, by a mount and by the world alike.
 
+use bytes::Bytes;
 use eden_accumulate::Mount;
 use eden_history::{Answer, Change, ChangeFault, Position};
 use eden_ids::{Id, Sequence};
@@ -14,7 +15,7 @@ use test_kit::FirstByte;
 fn files(alloc: Global, texts: &[&str]) -> Result<Sequence<Object>, Fail> {
     let mut objects = Vec::new(alloc);
     for text in texts {
-        let payload = Sequence::from_vec(text.as_bytes().to_vec(alloc)?);
+        let payload = Bytes::copy_from_slice(alloc, text.as_bytes())?;
         objects.push(Object {
             object_type: ObjectType::Blob,
             payload,

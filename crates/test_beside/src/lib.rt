@@ -21,6 +21,10 @@ mod messages_tests;
 #[cfg(test)]
 mod mount_tests;
 #[cfg(test)]
+mod names_tests;
+#[cfg(test)]
 mod patterns;
+#[cfg(test)]
+mod snapshot_tests;
 #[cfg(test)]
 mod stores;

@@ -25,7 +25,7 @@ fn last(alloc: Global, store: &mut Store<GitNaming>, root: Id) -> Result<Mount<G
 /// Returns a file that no commit has, to be imported.
 fn file(alloc: Global) -> Result<Vec<Object>, Fail> {
     let mut objects = Vec::new(alloc);
-    let payload = Sequence::from_vec(b"z".as_slice().to_vec(alloc)?);
+    let payload = Bytes::copy_from_slice(alloc, b"z".as_slice())?;
     let object_type = ObjectType::Blob;
     objects.push(Object {
         object_type,

@@ -1,4 +1,4 @@
-//! Stores of two commits.
+//! Stores of one commit or two.
 
 use std::alloc::Global;
 use std::test::Fail;
@@ -14,6 +14,16 @@ const TWO: &str = "blob x x;blob y y;tree t 100644 a x 100644 b x;commit first t
 /// Makes two commits of two files each, one of which has the same path in both.
 pub(crate) fn two_commits(alloc: Global) -> Result<Commits<2>, Fail> {
     let objects = Objects::of(alloc, TWO)?;
+    Ok(Commits::labelled(objects, LABELS))
+}
+
+/// A commit of three files, and of a directory of two.
+const ONE: &str = "blob x x;blob y y;tree d 100644 a x 100755 b y;\
+    tree t 100644 a x 100644 b x 40000 d d 100644 e y;commit first t";
+
+/// Makes a commit with a directory.
+pub(crate) fn one_commit(alloc: Global) -> Result<Commits<1>, Fail> {
+    let objects = Objects::of(alloc, ONE)?;
     Ok(Commits::labelled(objects, LABELS))
 }
 

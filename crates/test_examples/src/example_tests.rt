@@ -271,12 +271,13 @@ fn eden_objects_imported(
     store: &mut Store<GitNaming>,
     copy: &Store<GitNaming>,
 ) -> Result<(), Fail> {
-    use eden_ids::{GitNaming, Naming, Sequence};
+    use bytes::Bytes;
+    use eden_ids::{GitNaming, Naming};
     use eden_objects::{Object, ObjectType};
 
     let mut objects = Vec::new(alloc);
     for bytes in [b"more\n".as_slice(), b"and more\n".as_slice()] {
-        let payload = Sequence::from_vec(bytes.to_vec(alloc)?);
+        let payload = Bytes::copy_from_slice(alloc, bytes)?;
         objects.push(Object {
             object_type: ObjectType::Blob,
             payload,
@@ -559,7 +560,7 @@ fn eden_serve_example<
         + Sync,
 >(rt: &R, alloc: Global, port: u16) -> Result<(), Fail> {
     use eden_edend::Objects;
-    use eden_serve::{Daemon, ScriptInput, Unobserved, Until, run_daemon};
+    use eden_serve::{Daemon, Desks, ScriptInput, Unobserved, Until, run_daemon};
     use eden_sockets::Place;
     use eden_stream::Counted;
 
@@ -571,7 +572,10 @@ fn eden_serve_example<
     let daemon = Daemon {
         objects: Objects::new(alloc),
         place: Place::Port(port),
-        until: Until::Connections(0),
+        until: Until::Connections(Desks {
+            count: 0,
+            writable: false,
+        }),
     };
     let ended = run_daemon(rt, alloc, daemon, &mut input, &mut writer, &Unobserved);
     assert_eq!(rt; ended, Ok(()));

@@ -1,6 +1,7 @@
 //! Imports of several objects, and what copies of a store keep while it grows.
 
-use eden_ids::{GitNaming, Id, Kind, Naming, NoMemory, Sequence};
+use bytes::Bytes;
+use eden_ids::{GitNaming, Id, Kind, Naming, NoMemory};
 use eden_objects::{ImportFault, Object, ObjectType, PutFault, Store};
 use std::alloc::Global;
 use std::process::Abort;
@@ -14,7 +15,7 @@ type Part = (ObjectType, &'static [u8]);
 fn objects_of(alloc: Global, parts: &[Part]) -> Result<Vec<Object>, Fail> {
     let mut objects = Vec::new(alloc);
     for (object_type, payload) in parts {
-        let payload = Sequence::from_vec(payload.to_vec(alloc)?);
+        let payload = Bytes::copy_from_slice(alloc, payload)?;
         objects.push(Object {
             object_type: *object_type,
             payload,
@@ -236,7 +237,7 @@ fn fault_of_third(
     payload: Vec<u8>,
 ) -> Result<Option<PutFault>, Fail> {
     let mut objects = objects_of(alloc, [X, A].as_slice())?;
-    let payload = Sequence::from_vec(payload);
+    let payload = Bytes::copy_from_slice(alloc, payload.as_slice())?;
     objects.push(Object {
         object_type,
         payload,
@@ -329,7 +330,8 @@ fn only(alloc: Global, mode: &str, name: &[u8], id: Id) -> Result<(Object, Id), 
     let mut payload = Vec::new(alloc);
     push_entry(&mut payload, mode, name, id)?;
     let id = GitNaming.id_of(b"tree".as_slice(), payload.as_slice());
-    let (object_type, payload) = (ObjectType::Tree, Sequence::from_vec(payload));
+    let payload = Bytes::copy_from_slice(alloc, payload.as_slice())?;
+    let object_type = ObjectType::Tree;
     Ok((
         Object {
             object_type,
@@ -459,9 +461,9 @@ const IMPORTED: usize = 100;
 /// Adds files that hold the numbers up to that one, and their ids.
 fn add_numbered(alloc: Global, objects: &mut Vec<Object>, ids: &mut Vec<Id>) -> Result<(), Fail> {
     for number in 0..=IMPORTED {
-        let text = format!(in alloc; "{number}")?.as_bytes().to_vec(alloc)?;
-        ids.push(GitNaming.id_of(b"blob".as_slice(), text.as_slice()))?;
-        let payload = Sequence::from_vec(text);
+        let text = format!(in alloc; "{number}")?;
+        ids.push(GitNaming.id_of(b"blob".as_slice(), text.as_bytes()))?;
+        let payload = Bytes::copy_from_slice(alloc, text.as_bytes())?;
         objects.push(Object {
             object_type: ObjectType::Blob,
             payload,

@@ -24,7 +24,7 @@ pub const REQUEST_BODIES: [&[&[u8]]; 4] = [
 ];
 
 /// The parts of the bodies of replies: that the files are `a` and `a/b`, that `a` was removed and that the root named `b`, that files were
-/// moved from `d` to `e`, that no file stands at `a`, that a plain, an executable file or a link stands there that holds `hi`, that a reply
+/// moved from `d` to `e`, that there is no file at `a`, that `a` is a plain file, an executable one or a link that holds `hi`, that a reply
 /// is too large, and that the file below `d` is `d/x`.
 pub const REPLY_BODIES: [&[&[u8]]; 9] = [
     &[

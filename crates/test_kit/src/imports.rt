@@ -2,6 +2,7 @@
 
 use crate::lot::Lot;
 use crate::payload::{commit_of, push_entry};
+use bytes::Bytes;
 use eden_history::Change;
 use eden_ids::{GitNaming, Id, Naming, Sequence};
 use eden_objects::{Object, ObjectType};
@@ -67,7 +68,7 @@ impl Batch<'_> {
     fn add(&mut self, object_type: ObjectType, payload: Vec<u8>) -> Result<Id, Fail> {
         let id = GitNaming.id_of(object_type.text(), payload.as_slice());
         if self.lot.below(20) > 0 {
-            let payload = Sequence::from_vec(payload);
+            let payload = Bytes::copy_from_slice(self.alloc, payload.as_slice())?;
             self.objects.push(Object {
                 object_type,
                 payload,

@@ -2,8 +2,9 @@
 
 use crate::labels::Labels;
 use crate::payload::{commit_of, push_entry};
+use bytes::Bytes;
 use eden_ids::{GitNaming, Id, Sequence};
-use eden_objects::{Importer, Object, ObjectType, PutFault, Store};
+use eden_objects::{Importer, Object, ObjectType, Payload, PutFault, Store};
 use eden_script::{
     Command, Label, PutLine, Refusal, TreeEntry, push_id_line, push_ok, push_refusal, words,
 };
@@ -140,9 +141,13 @@ impl Objects {
                 (ObjectType::Commit, payload)
             }
         };
-        Ok(payload.map(|payload| Object {
+        let Some(payload) = payload else {
+            return Ok(None);
+        };
+        let payload = Bytes::copy_from_slice(alloc, payload.as_slice())?;
+        Ok(Some(Object {
             object_type,
-            payload: Sequence::from_vec(payload),
+            payload,
         }))
     }
 
@@ -188,7 +193,7 @@ impl Objects {
     ) -> Result<Option<Result<Id, PutFault>>, Fail> {
         let put = match self.object_of(alloc, &line)? {
             Some(object) => {
-                let payload = object.payload.as_slice();
+                let payload = Payload::Shared(&object.payload);
                 Some(self.store.put_object(object.object_type, payload))
             }
             None => None,

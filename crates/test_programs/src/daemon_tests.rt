@@ -247,13 +247,13 @@ const ROWS: &[Row] = &[
         "error: the argument '--port <P>' cannot be used with '--writable'",
     ),
     (
-        "edend serve --socket s --connections 1 --writable",
+        "edend serve --port 1 --connections 1 --writable",
         ONE,
         ALL,
         ALL,
         2,
         "",
-        "error: the following required arguments were not provided:\n  --stay",
+        "error: the argument '--port <P>' cannot be used with '--writable'",
     ),
     (
         "edend serve --socket /tmp/1234567890123456789012345678901234567890123456789012345678901234567890123456789012345678901234567 --connections 1",

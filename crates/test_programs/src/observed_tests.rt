@@ -124,7 +124,7 @@ fn send<R: Net<Stream = TcpStream> + Clock>(
     is_sent && stream.read_to_end(&mut rest).is_ok() && rest.is_empty()
 }
 
-/// Runs a daemon whose script goes on until the flag is set. Returns its status.
+/// Runs a daemon whose script goes on until the flag is set. Returns its status and its output.
 pub(crate) fn serve<
     R: Threads
         + Wait
@@ -139,14 +139,15 @@ pub(crate) fn serve<
     script: &[u8],
     ended: &AtomicBool,
     errors: &mut Vec<u8>,
-) -> u8 {
+) -> (u8, Vec<u8>) {
     let file = OneFile {
         bytes: b"",
         fails_at: ALL,
     };
     let feed = Feed::new(rt, script, b"", b"", ended);
     let mut output = Vec::new(alloc);
-    edend(rt, alloc, &file, words, feed, &mut output, errors)
+    let status = edend(rt, alloc, &file, words, feed, &mut output, errors);
+    (status, output)
 }
 
 /// Sends these bytes as a client, and then sets the flag. Returns whether nothing was answered.
@@ -170,7 +171,7 @@ fn refused_while_it_serves(rt: HostRuntime) -> Result<(), Fail> {
         let (port, ended) = (free_port(&rt)?, AtomicBool::new(false));
         let words = split_words(alloc, words_at(alloc, line, port)?.as_str())?;
         let mut errors = Vec::new(alloc);
-        let (observed, is_sent) = thread::join(
+        let ((observed, _), is_sent) = thread::join(
             &rt,
             || serve(&rt, alloc, words.as_slice(), script, &ended, &mut errors),
             || send_alone(&rt, alloc, port, bytes, &ended),

@@ -136,19 +136,19 @@ fn bad_script_leaves_no_file(rt: HostRuntime) -> Result<(), Fail> {
 const FLUSH: &[u8] = b"\0\0\0\x1b\x02\x06\
 \0\0\0\0\0\0\0\x01\0\0\0\0\0\0\0\x01\0\0\0\0\0\0\0\x01\x06";
 
-/// The options of a daemon at a socket, and the frame that answers a flush.
-const FLUSHED: &[(&str, &[u8])] = &[
-    (
-        "--stay",
-        b"\0\0\0\x1b\x02\x86\
-\0\0\0\0\0\0\0\x01\0\0\0\0\0\0\0\x01\0\0\0\0\0\0\0\x01\0",
-    ),
-    (
-        "--stay --writable",
-        b"\0\0\0\x3f\x02\x86\
+/// The frame that answers a flush that was not made, and one that was.
+const NOT_WRITABLE: &[u8] = b"\0\0\0\x1b\x02\x86\
+\0\0\0\0\0\0\0\x01\0\0\0\0\0\0\0\x01\0\0\0\0\0\0\0\x01\0";
+
+const MADE: &[u8] = b"\0\0\0\x3f\x02\x86\
 \0\0\0\0\0\0\0\x01\0\0\0\0\0\0\0\x01\0\0\0\0\0\0\0\x01\x01\
-\0\0\0\0\0\0\0\x07\0\0\0\0\0\0\0\x02\0\0\0\0\0\0\0\0\0\0\0\0\0\0\0\0\0\0\0\0",
-    ),
+\0\0\0\0\0\0\0\x07\0\0\0\0\0\0\0\x02\0\0\0\0\0\0\0\0\0\0\0\0\0\0\0\0\0\0\0\0";
+
+/// The options of a daemon at a socket, the frame that answers a flush, and what is printed last.
+const FLUSHED: &[(&str, &[u8], &str)] = &[
+    ("--stay", NOT_WRITABLE, ""),
+    ("--stay --writable", MADE, ""),
+    ("--writable", MADE, "audit ok\n"),
 ];
 
 /// Asks for a flush on a connection of its own, and returns the first bytes of what is answered.
@@ -200,13 +200,13 @@ fn flush_alone<R: Net<Stream = TcpStream> + Clock>(
 #[test]
 fn writable_socket(rt: HostRuntime) -> Result<(), Fail> {
     let alloc = rt.alloc();
-    for (options, answer) in FLUSHED {
+    for (options, answer, last) in FLUSHED {
         let (path, ended) = (fresh_path(&rt, alloc)?, AtomicBool::new(false));
         let (name, place) = (path.as_str(), Place::Socket(path));
         let line = format!(in alloc; "edend serve --socket {name} --connections 1 {options}")?;
         let words = split_words(alloc, line.as_str())?;
         let mut errors = Vec::new(alloc);
-        let (status, is_answered) = thread::join(
+        let ((status, output), is_answered) = thread::join(
             &rt,
             || serve(
                 &rt,
@@ -222,6 +222,8 @@ fn writable_socket(rt: HostRuntime) -> Result<(), Fail> {
             is_answered && status == 0 && errors.is_empty(),
             "{options}"
         );
+        let printed = format!(in alloc; "at 7 1 empty\nlistening unix {name}\n{last}")?;
+        assert!(rt; output.as_slice() == printed.as_bytes(), "{options}");
     }
     Ok(())
 }

@@ -1,6 +1,7 @@
 //! Logs that a test writes, beside a mount that was asked for two files.
 
 use crate::calls::opened;
+use bytes::Bytes;
 use eden_history::{Change, ChangeFault, Mark};
 use eden_ids::{GitNaming, Sequence};
 use eden_logs::{Call, CallAnswer};
@@ -48,7 +49,7 @@ fn objects(
 ) -> Result<Sequence<Object>, Fail> {
     let mut objects = Vec::new(alloc);
     for payload in payloads {
-        let payload = Sequence::from_vec(payload.as_bytes().to_vec(alloc)?);
+        let payload = Bytes::copy_from_slice(alloc, payload.as_bytes())?;
         objects.push(Object {
             object_type,
             payload,

@@ -80,7 +80,7 @@ fn first_wrong(
     frames: &mut Exchange,
 ) -> Result<Option<(&'static str, usize)>, Fail> {
     add_each_kind(alloc, frames)?;
-    if frames.count() != 6 || !are_served(alloc, frames)? {
+    if frames.count() != 8 || !are_served(alloc, frames)? {
         return Ok(Some(("all", 0)));
     }
     for most in [usize::MAX, 1, 3] {

@@ -34,7 +34,7 @@ pub(crate) const NO_CHANGES: &[&[u8]] = &[&[0, 0, 0, 0x46, 2, 0x82], &Q, &FIRST,
 /// A fetch of `a`.
 const FETCH: &[&[u8]] = &[&[0, 0, 0, 0x1d, 2, 3], &Q, &[0, 1, b'a']];
 
-/// The reply that nothing stands there in that row.
+/// The reply that there is no file at `a` in that row.
 const ABSENT: &[&[u8]] = &[
     &[0, 0, 0, 0x42, 2, 0x83],
     &Q,
@@ -46,7 +46,7 @@ const ABSENT: &[&[u8]] = &[
 /// A stat of `a`.
 const STAT: &[&[u8]] = &[&[0, 0, 0, 0x1d, 2, 8], &Q, &[0, 1, b'a']];
 
-/// The reply that nothing stands there in that row.
+/// The reply that there is no file at `a` in that row.
 const NO_STAT: &[&[u8]] = &[
     &[0, 0, 0, 0x42, 2, 0x88],
     &Q,
@@ -54,6 +54,18 @@ const NO_STAT: &[&[u8]] = &[
     &ROOT,
     &[0, 1, b'a', 0],
 ];
+
+/// Attributes of all files.
+const ATTRIBUTES: &[&[u8]] = &[&[0, 0, 0, 0x1c, 2, 9], &Q, &[0, 0]];
+
+/// The reply that there are none in that row.
+const NO_ATTRIBUTES: &[&[u8]] = &[&[0, 0, 0, 0x43, 2, 0x89], &Q, &FIRST, &ROOT, &[0; 5]];
+
+/// A status of all paths.
+const STATUS: &[&[u8]] = &[&[0, 0, 0, 0x1b, 2, 10], &Q, &[0]];
+
+/// The reply that no path differs from the commit in that row.
+const CLEAN: &[&[u8]] = &[&[0, 0, 0, 0x42, 2, 0x8a], &Q, &FIRST, &ROOT, &[0; 4]];
 
 /// A basis of all paths.
 const BASIS: &[&[u8]] = &[&[0, 0, 0, 0x1b, 2, 1], &Q, &[0]];
@@ -180,6 +192,8 @@ pub(crate) const KNOWN: &[(&[&[u8]], &[&[u8]])] = &[
     (POLL, NO_CHANGES),
     (LIST, NO_LIST),
     (STAT, NO_STAT),
+    (ATTRIBUTES, NO_ATTRIBUTES),
+    (STATUS, CLEAN),
 ];
 
 #[test]
@@ -502,6 +516,64 @@ const STATS: &[&[u8]] = &[
     &[0, 1, b'a', 0],
 ];
 
+/// Attributes of all files, and of those below `d` by that pattern, and their replies.
+const ATTRIBUTES_ASKED: &[&[u8]] = &[
+    &[0, 0, 0, 0x1c, 2, 9],
+    &Q,
+    &[0, 0],
+    &[0, 0, 0, 0x25, 2, 9],
+    &Q,
+    &[1, 0, 1, b'd'],
+    &PATTERN,
+];
+
+const ATTRIBUTES_ARE: &[&[u8]] = &[
+    &[0, 0, 0, 0x7d, 2, 0x89],
+    &Q,
+    &THIRD,
+    &ROOT,
+    &[0, 0, 0, 0, 2],
+    &D_A,
+    &[2, 0, 0, 0, 2],
+    &OF_HI,
+    &[0, 1, b'e', 2, 0, 0, 0, 2],
+    &OF_HI,
+    &[0, 0, 0, 0x64, 2, 0x89],
+    &Q,
+    &THIRD,
+    &ROOT,
+    &[1, 0, 1, b'd', 0, 0, 0, 1],
+    &D_A,
+    &[2, 0, 0, 0, 2],
+    &OF_HI,
+];
+
+/// A status of all paths, and of all but `e`, and their replies: no file is in the commit.
+const STATUS_ASKED: &[&[u8]] = &[
+    &[0, 0, 0, 0x1b, 2, 10],
+    &Q,
+    &[0],
+    &[0, 0, 0, 0x21, 2, 7, 1, 0, 1, b'e', 2, 10],
+    &Q,
+    &[0],
+];
+
+const STATUS_IS: &[&[u8]] = &[
+    &[0, 0, 0, 0x4c, 2, 0x8a],
+    &Q,
+    &THIRD,
+    &ROOT,
+    &[0, 0, 0, 2, 1],
+    &D_A,
+    &[1, 0, 1, b'e'],
+    &[0, 0, 0, 0x48, 2, 0x8a],
+    &Q,
+    &THIRD,
+    &ROOT,
+    &[0, 0, 0, 1, 1],
+    &D_A,
+];
+
 /// Returns whether a mount of the files `d/a` and `e`, which hold `hi`, answers two frames, which come in pieces of N bytes at the most, by
 /// two replies.
 fn answers_two(
@@ -550,6 +622,8 @@ const TWO_FRAMES: &[TwoFrames] = &[
     ("poll_by_a_pattern", POLLED, CHANGED, usize::MAX),
     ("list_of_a_directory", LISTED, BELOW, 1),
     ("stats_of_a_file_and_of_none", STATED, STATS, 1),
+    ("attributes_of_files", ATTRIBUTES_ASKED, ATTRIBUTES_ARE, 1),
+    ("status_of_files", STATUS_ASKED, STATUS_IS, 1),
 ];
 
 #[test]

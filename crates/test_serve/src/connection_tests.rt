@@ -4,7 +4,7 @@ use crate::checking::{Frames, ask_both, make_frames};
 use crate::client::{connect, listen, port_of};
 use crate::serving::{PRINTED, SCRIPT, SEQUENCE, serve};
 use eden_edend::{LineInput, Objects, run_to_listen};
-use eden_serve::{DaemonFault, Listening, Unobserved, Until, serve_listener};
+use eden_serve::{DaemonFault, Desks, Listening, Unobserved, Until, serve_listener};
 use eden_stream::Counted;
 use std::alloc::Global;
 use std::net::{Net, TcpListener, TcpStream};
@@ -101,7 +101,10 @@ fn refused<R: Threads + Wait + Clock + Net<Listener = TcpListener, Stream = TcpS
     let mut unread = Counted::new(Vec::new(alloc));
     let opened = run_to_listen(alloc, Objects::new(alloc), &mut input, &mut unread)?;
     let listening = Listening { opened, listener };
-    let until = Until::Connections(connections);
+    let until = Until::Connections(Desks {
+        count: connections,
+        writable: false,
+    });
     let mut writer = Counted::new(output);
     Ok(serve_listener(
         rt,

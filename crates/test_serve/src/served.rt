@@ -2,7 +2,7 @@
 
 use crate::feed::Feed;
 use eden_edend::{LineInput, Objects, run_to_listen};
-use eden_serve::{Listening, Unobserved, Until, serve_listener};
+use eden_serve::{Desks, Listening, Unobserved, Until, serve_listener};
 use eden_sockets::Listener;
 use eden_stream::Counted;
 use std::alloc::Global;
@@ -29,7 +29,10 @@ pub fn serve_feed<
     let mut writer = Counted::new(&mut output);
     let opened = run_to_listen(alloc, Objects::new(alloc), &mut input, &mut writer).ok()?;
     let listening = Listening { opened, listener };
-    let until = Until::Connections(connections);
+    let until = Until::Connections(Desks {
+        count: connections,
+        writable: false,
+    });
     serve_listener(
         rt,
         alloc,

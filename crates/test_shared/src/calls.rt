@@ -1,5 +1,6 @@
 //! Calls as a caller makes them, drawn by lot.
 
+use bytes::Bytes;
 use eden_globs::Filter;
 use eden_history::{Change, Mode, Position};
 use eden_ids::{Id, Sequence};
@@ -53,7 +54,7 @@ fn change_of(alloc: Global, draw: Draw) -> Result<Option<Change>, Fail> {
         4 => rename(alloc, draw.path, draw.other)?,
         5 => {
             let object_type = ObjectType::Blob;
-            let payload = Sequence::from_vec(draw.text.as_bytes().to_vec(alloc)?);
+            let payload = Bytes::copy_from_slice(alloc, draw.text.as_bytes())?;
             let objects = Sequence::from_vec(vec![in alloc;
                 Object {
                     object_type,

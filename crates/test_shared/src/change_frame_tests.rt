@@ -52,7 +52,7 @@ const ID: &[u8] =
     b"\xe0\x85\x6c\x3a\x08\x16\x6b\x65\x91\xae\x90\x89\x8b\xa3\x40\x06\xb7\x34\xf2\x5b";
 
 /// Changes that are asked for one after another, and how each ends.
-const CHANGES: &[(Pieces, Pieces)] = &[
+pub(crate) const CHANGES: &[(Pieces, Pieces)] = &[
     // Files are written, one of them is removed, and one is renamed there and back.
     (
         &[&[1, 0, 1, b'a', 1, 0, 0, 0, 1, b'x']],
@@ -151,9 +151,9 @@ pub(crate) fn add(
 
 /// A stream of frames, and what is written of it.
 #[derive(Drop)]
-struct Talk {
-    asked: Vec<u8>,
-    said: Vec<u8>,
+pub(crate) struct Talk {
+    pub(crate) asked: Vec<u8>,
+    pub(crate) said: Vec<u8>,
 }
 
 impl Talk {
@@ -178,7 +178,7 @@ impl Talk {
 }
 
 /// Asks for all changes. None of them is made if the connection may not.
-fn all_changes(alloc: Global, writable: bool) -> Result<Talk, Fail> {
+pub(crate) fn all_changes(alloc: Global, writable: bool) -> Result<Talk, Fail> {
     let mut talk = Talk::new(alloc);
     for (change, end) in CHANGES {
         talk.change(alloc, *change, if writable { *end } else { &[&[0]] })?;
@@ -194,7 +194,7 @@ fn none_made(alloc: Global) -> Result<Talk, Fail> {
 }
 
 /// Asks for a change between two polls.
-fn change_among_polls(alloc: Global) -> Result<Talk, Fail> {
+pub(crate) fn change_among_polls(alloc: Global) -> Result<Talk, Fail> {
     let mut talk = Talk::new(alloc);
     let (change, end) = CHANGES[0];
     talk.poll(alloc, NOTHING)?;

@@ -42,6 +42,21 @@ const STAT: &[&[u8]] = &[&[0, 0, 0, 0x1d, 2, 8], &Q, &[0, 1, b'a']];
 /// The reply that nothing stands at `a`, to a stat.
 const NO_STAT: &[&[u8]] = &[&[0, 0, 0, 0x42, 2, 0x88], &Q, &P, &[0, 1, b'a', 0]];
 
+/// Attributes of all files below `d`, which is asked as a list, and the reply that there are none.
+const ATTRIBUTES: &[&[u8]] = &[&[0, 0, 0, 0x1f, 2, 9], &Q, &[1, 0, 1, b'd', 0]];
+
+const NO_ATTRIBUTES: &[&[u8]] = &[
+    &[0, 0, 0, 0x46, 2, 0x89],
+    &Q,
+    &P,
+    &[1, 0, 1, b'd', 0, 0, 0, 0],
+];
+
+/// A status, which is asked as a basis, and the reply that nothing differs from the commit.
+const STATUS: &[&[u8]] = &[&[0, 0, 0, 0x1b, 2, 10], &Q, &[0]];
+
+const CLEAN: &[&[u8]] = &[&[0, 0, 0, 0x42, 2, 0x8a], &Q, &P, &[0; 4]];
+
 /// The reply that nothing stands at `a`.
 const ABSENT: &[&[u8]] = &[&[0, 0, 0, 0x42, 2, 0x83], &Q, &P, &[0, 1, b'a', 0]];
 
@@ -71,6 +86,7 @@ const CASES: &[Case] = &[
     (&[FETCH, FETCH], &[ABSENT, ABSENT], Ok(2)),
     (&[PATIENT, FETCH], &[ABSENT, ABSENT], Ok(2)),
     (&[STAT, FETCH, STAT], &[NO_STAT, ABSENT, NO_STAT], Ok(3)),
+    (&[ATTRIBUTES, STATUS], &[NO_ATTRIBUTES, CLEAN], Ok(2)),
     (
         &[FETCH, FETCH, &[&[0]]],
         &[ABSENT, ABSENT],

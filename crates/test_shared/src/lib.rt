@@ -10,6 +10,8 @@ mod change_frame_tests;
 #[cfg(test)]
 mod change_thread_tests;
 #[cfg(test)]
+mod desk_change_tests;
+#[cfg(test)]
 mod desk_tests;
 #[cfg(test)]
 mod frame_tests;

@@ -227,13 +227,13 @@ fn frames_are_replied_as_to_one_caller(rt: HostRuntime) -> Result<(), Fail> {
 }
 
 /// The id of a file that holds `x`, by `git hash-object`.
-const OF_X: [u8; 20] = [
+pub(crate) const OF_X: [u8; 20] = [
     0xc1, 0xb0, 0x73, 0x0e, 0x01, 0x33, 0x44, 0x7b, 0xad, 0xcf, 0xd4, 0x7f, 0xd1, 0x44, 0xe2, 0x54,
     0x80, 0x7b, 0x06, 0xe1,
 ];
 
 /// The second position of generation 7, over the empty commit.
-const SECOND: [u8; 16] = [0, 0, 0, 0, 0, 0, 0, 7, 0, 0, 0, 0, 0, 0, 0, 2];
+pub(crate) const SECOND: [u8; 16] = [0, 0, 0, 0, 0, 0, 0, 7, 0, 0, 0, 0, 0, 0, 0, 2];
 
 /// A stat of `a`, and its reply.
 const STAT: &[&[u8]] = &[&[0, 0, 0, 0x1d, 2, 8], &Q, &[0, 1, b'a']];
@@ -256,6 +256,43 @@ fn a_stat_is_replied_as_to_one_caller(rt: HostRuntime) -> Result<(), Fail> {
     assert_eq!(rt; text, wanted);
     let (text, end) = single_end(alloc, stream.as_slice())?;
     assert_eq!(rt; end, Ok(1));
+    assert_eq!(rt; text, wanted);
+    Ok(())
+}
+
+/// Attributes of all files and a status, and their replies.
+const ATTRIBUTES: &[&[u8]] = &[
+    &[0, 0, 0, 0x1c, 2, 9],
+    &Q,
+    &[0, 0],
+    &[0, 0, 0, 0x1b, 2, 10],
+    &Q,
+    &[0],
+];
+
+const ATTRIBUTES_ARE: &[&[u8]] = &[
+    &[0, 0, 0, 0x5f, 2, 0x89],
+    &Q,
+    &SECOND,
+    &[0; 20],
+    &[0, 0, 0, 0, 1, 0, 1, b'a', 1, 0, 0, 0, 1],
+    &OF_X,
+    &[0, 0, 0, 0x46, 2, 0x8a],
+    &Q,
+    &SECOND,
+    &[0; 20],
+    &[0, 0, 0, 1, 1, 0, 1, b'a'],
+];
+
+#[test]
+fn attributes_are_replied_as_to_one_caller(rt: HostRuntime) -> Result<(), Fail> {
+    let alloc = rt.alloc();
+    let (stream, wanted) = (joined(alloc, ATTRIBUTES)?, joined(alloc, ATTRIBUTES_ARE)?);
+    let (text, end) = unlogged_text(&rt, alloc, stream.as_slice())?;
+    assert_eq!(rt; end, Ok(2));
+    assert_eq!(rt; text, wanted);
+    let (text, end) = single_end(alloc, stream.as_slice())?;
+    assert_eq!(rt; end, Ok(2));
     assert_eq!(rt; text, wanted);
     Ok(())
 }

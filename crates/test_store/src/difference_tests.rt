@@ -113,7 +113,7 @@ fn put_wide(alloc: Global, objects: &mut Objects) -> Result<(), Fail> {
 }
 
 /// Commits of a file `f`, which holds `x` or `y`, and of a directory `z` of forty levels, each with the level below under two names, so
-/// that what is lowest stands there two to the fortieth times: `p` one file, `m` the same one beside a directory without files, and `o`
+/// that the lowest directory is in it two to the fortieth times: `p` one file, `m` the same one beside a directory without files, and `o`
 /// another one. And `n`, whose lowest directories are empty.
 fn wide_commits(alloc: Global) -> Result<Objects, Fail> {
     let mut objects = Objects::of(alloc, LOWEST)?;

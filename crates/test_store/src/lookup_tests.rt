@@ -166,7 +166,7 @@ fn found(
     Ok(store.lookup(commit, &path(alloc, at)?))
 }
 
-/// Directories and what is none: no file stands there.
+/// Directories and names of nothing: there is no file at any of them.
 const NO_FILE: &[&str] = &["a", "a-b/x", "a/y", "d/e", "d/e/f/g", "x", "z"];
 
 fn id_of(text: &str) -> Result<Id, Fail> {

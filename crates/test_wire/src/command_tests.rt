@@ -37,7 +37,7 @@ fn objects(alloc: Global) -> Result<Sequence<Object>, Fail> {
         (ObjectType::Tree, ""),
         (ObjectType::Commit, "t"),
     ] {
-        let payload = Sequence::from_vec(text.as_bytes().to_vec(alloc)?);
+        let payload = Bytes::copy_from_slice(alloc, text.as_bytes())?;
         list.push(Object {
             object_type,
             payload,
@@ -63,6 +63,11 @@ fn rename_dir(alloc: Global) -> Result<Change, Fail> {
     })
 }
 
+/// Whether a body is read as a change that is asked for.
+fn is_read_as(alloc: Global, body: &[u8], doing: Doing) -> Result<bool, Fail> {
+    Ok(decode_command(alloc, body)? == Command::Do(doing))
+}
+
 /// Whether a change is encoded as these parts after the query, with their length before them, and read as that.
 fn is_asked_by(alloc: Global, change: Change, fields: &[&[u8]]) -> Result<bool, Fail> {
     let fields = joined(alloc, fields)?;
@@ -72,8 +77,7 @@ fn is_asked_by(alloc: Global, change: Change, fields: &[&[u8]]) -> Result<bool, 
         change,
     };
     let frame = encode_do(alloc, &doing)?;
-    let read = decode_command(alloc, body.as_slice())?;
-    Ok(frame == framed(alloc, body.as_slice())? && read == Command::Do(doing))
+    Ok(frame == framed(alloc, body.as_slice())? && is_read_as(alloc, body.as_slice(), doing)?)
 }
 
 #[test]
@@ -183,7 +187,7 @@ const NO_COMMANDS: &[(&[&[u8]], DecodeFault)] = &[
     (&[], DecodeFault::CutShort),
     (&[&[1, 6]], DecodeFault::Version),
     (&[&[2]], DecodeFault::CutShort),
-    (&[&[2, 9], &Q, &[6]], DecodeFault::BadTag),
+    (&[&[2, 11], &Q, &[6]], DecodeFault::BadTag),
     (&[&[2, 6], &[0; 23]], DecodeFault::CutShort),
     // An answer, and a change after a patience, after exclusions and after another one.
     (&[&[2, 0x86], &Q, &[0]], DecodeFault::BadTag),
@@ -254,7 +258,7 @@ fn a_change_is_no_request(rt: HostRuntime) -> Result<(), Fail> {
 fn import_of(alloc: Global, count: usize, bytes: usize) -> Result<Change, Fail> {
     let mut list = Vec::new(alloc);
     for _ in 0..count {
-        let payload = Sequence::from_vec(vec![in alloc; 0; bytes]?);
+        let payload = Bytes::copy_from_slice(alloc, vec![in alloc; 0; bytes]?.as_slice())?;
         let object_type = ObjectType::Blob;
         list.push(Object {
             object_type,

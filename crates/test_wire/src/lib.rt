@@ -1,4 +1,4 @@
-//! Tests of messages as bytes: each request, each reply, each Stat and each change with its answer as the format spells it, bodies that spell none, each change of one byte of a body,
+//! Tests of messages as bytes: each request, each reply, each other question with its reply and each change with its answer as the format spells it, bodies that spell none, each change of one byte of a body,
 //! and bodies that are drawn by lot, all of them read as a plain reader reads them.
 //!
 //! The messages and the plain reader are shared with the tests of what serves messages.
@@ -12,6 +12,8 @@ pub use crate::plain::{QUESTION_TAGS, REPLY_TAGS, REQUEST_TAGS, plain_fault};
 
 #[cfg(test)]
 mod asked_tests;
+#[cfg(test)]
+mod attributes_tests;
 #[cfg(test)]
 mod command_tests;
 #[cfg(test)]

@@ -104,7 +104,7 @@ fn changes_of(alloc: Global, changes: &[(Mark, &str)]) -> Result<Sequence<Marked
     Ok(Sequence::from_vec(marked))
 }
 
-/// The reply about a path: that no file stands there, or one of this kind and text.
+/// The reply about a path: that there is no file, or one of this kind and text.
 fn content_of(
     alloc: Global,
     number: u64,

@@ -45,6 +45,18 @@ impl<'a> Left<'a> {
         }
     }
 
+    /// A path, or none.
+    fn prefix(&mut self) -> Result<(), DecodeFault> {
+        match self.number(1)? {
+            0 => Ok(()),
+            1 => {
+                let _ = self.path()?;
+                Ok(())
+            }
+            _ => Err(DecodeFault::BadField),
+        }
+    }
+
     /// Paths that ascend, with a mark before each or without, and each below a directory if there is one.
     fn paths(&mut self, marks: bool, prefix: Option<&[u8]>) -> Result<(), DecodeFault> {
         let mut last = b"".as_slice();
@@ -115,7 +127,11 @@ impl<'a> Left<'a> {
             self.position()?;
         }
         match tag {
-            1 | 2 => self.filter(),
+            1 | 2 | 10 => self.filter(),
+            9 => {
+                self.prefix()?;
+                self.filter()
+            }
             0x81 => self.paths(false, None),
             0x82 => {
                 self.paths(true, None)?;
@@ -150,20 +166,23 @@ impl<'a> Left<'a> {
         }
     }
 
-    /// What is excluded, and the tag of the request after it.
-    fn exclusions(&mut self) -> Result<u64, DecodeFault> {
+    /// What is excluded, and the tag after it: one of these that has a filter.
+    fn exclusions(&mut self, tags: &[u64]) -> Result<u64, DecodeFault> {
         if self.bytes.first() == Some(&0) {
             return Err(DecodeFault::BadField);
         }
         self.filter()?;
-        self.tag(&[1, 2, 4])
+        match self.tag(tags)? {
+            3 | 7 | 8 => Err(DecodeFault::BadTag),
+            tag => Ok(tag),
+        }
     }
 
     /// A body with one of these tags.
     fn body(&mut self, tags: &[u64]) -> Result<(), DecodeFault> {
         let mut tag = self.tag(tags)?;
         if tag == 7 {
-            tag = self.exclusions()?;
+            tag = self.exclusions(tags)?;
         }
         for _ in 0..3 {
             let _ = self.number(8)?;
@@ -220,8 +239,8 @@ fn is_pattern(bytes: &[u8]) -> bool {
 /// The tags of requests, and of what is excluded before one.
 pub const REQUEST_TAGS: [u64; 5] = [1, 2, 3, 4, 7];
 
-/// Those of questions: a Stat has the fields of a fetch.
-pub const QUESTION_TAGS: [u64; 6] = [1, 2, 3, 4, 7, 8];
+/// Those of questions: a Stat has the fields of a fetch, and a status those of a basis.
+pub const QUESTION_TAGS: [u64; 8] = [1, 2, 3, 4, 7, 8, 9, 10];
 
 /// The tags of replies.
 pub const REPLY_TAGS: [u64; 5] = [0x81, 0x82, 0x83, 0x84, 0x85];

@@ -254,7 +254,7 @@ fn reroot_and_revert(rt: HostRuntime) -> Result<(), Fail> {
     Ok(())
 }
 
-/// Sets a file at a path, or that there is none, whatever stands there.
+/// Sets the file at a path, or that there is none, whatever was there.
 fn set(alloc: Global, work: &mut WorkCopy, at: &str, file: Option<Content>) -> Result<(), Fail> {
     Ok(work.set(path(alloc, at)?, file)?)
 }
