@@ -35,10 +35,10 @@ _railburnet() {
 	else
 		case $name in
 		up | down | status | feed | objects | git-setup) mapfile -t COMPREPLY < <(compgen -d -- "$word") ;;
-		cat | list | since | follow | watch)
+		cat | stat | dirty | list | since | follow | watch)
 			words=${word//[\*\?\[\{\\]/}
 			# A pattern that excludes names files as another does.
-			if [[ $name != cat && $words == !* ]]; then
+			if [[ $name != cat && $name != stat && $words == !* ]]; then
 				mark='!'
 				words=${words#!}
 			fi

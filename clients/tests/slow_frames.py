@@ -6,6 +6,7 @@ from railburnet.frames import (
     MOST_BODY,
     MOST_CONTENT,
     VERSION,
+    AttributesAre,
     BasisIs,
     Cause,
     ChangesAre,
@@ -20,6 +21,7 @@ from railburnet.frames import (
     Query,
     Refused,
     StatIs,
+    StatusIs,
     lies_below,
     path_fault,
 )
@@ -77,6 +79,19 @@ class Fields:
             before = path
             yield value, path
 
+    def files(self, prefix: Optional[bytes]) -> list:
+        """A list of files, whose paths have to lie below a directory, if there is one."""
+        files = []
+        for _ in range(self.number(4)):
+            path = self.path()
+            if prefix is not None and not lies_below(path, prefix):
+                raise FrameFault("BadField")
+            stat = FileStat(self.one_of(Kind), self.number(4), self.take(20))
+            if files and path <= files[-1][0]:
+                raise FrameFault("BadField")
+            files.append((path, stat))
+        return files
+
     def one_of(self, values: Callable[[int], int]) -> int:
         try:
             return values(self.number(1))
@@ -110,7 +125,7 @@ class Fields:
         if self.number(1) != VERSION:
             raise FrameFault("Version")
         tag = self.number(1)
-        if not 0x81 <= tag <= 0x85 and tag != 0x88:
+        if not 0x81 <= tag <= 0x85 and tag not in (0x88, 0x89, 0x8A):
             raise FrameFault("BadTag")
         query = Query(self.number(8), self.number(8), self.number(8))
         if tag == 0x84:
@@ -121,6 +136,12 @@ class Fields:
         if tag == 0x82:
             marked = [(Mark(m), path) for m, path in self.paths(lambda: self.one_of(Mark))]
             return ChangesAre(query, position, marked, self.plain_paths())
+        if tag == 0x89:
+            prefix = self.path() if self.one_of((False, True).__getitem__) else None
+            return AttributesAre(query, position, prefix, self.files(prefix))
+        if tag == 0x8A:
+            marked = [(Mark(m), path) for m, path in self.paths(lambda: self.one_of(Mark))]
+            return StatusIs(query, position, marked)
         path = self.path()
         if tag == 0x83:
             return ContentIs(query, position, path, self.file())

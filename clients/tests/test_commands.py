@@ -59,6 +59,24 @@ class Lines(InFolder):
         )
         self.assertEqual(done.stdout.decode(), wanted[1])
 
+    def test_stat(self):
+        port, _ = self.server(SCRIPT)
+        # As `printf 1 | git hash-object --stdin` has it.
+        one = "56a6051ca2b02b04ef92d5150c9ef600403cb1de"
+        status, printed, said = self.run_it("--port", str(port), "stat", "./src/a", "none")
+        self.assertEqual((status, printed), (1, f"plain 1 {one} src/a\n"))
+        self.assertIn("no file at none", said)
+        self.assertEqual(self.run_it("--port", str(port), "stat", "/a")[0], 2)
+
+    def test_dirty(self):
+        port, _ = self.server(SCRIPT)
+        status, printed, _ = self.run_it("--port", str(port), "dirty", "src/*", "c")
+        lines = printed.splitlines()
+        self.assertEqual((status, lines[1:]), (0, ["dirty 2", "Created c", "Created src/a"]))
+        self.assertTrue(lines[0].startswith("at 7 "))
+        status, printed, _ = self.run_it("--port", str(port), "dirty", "--null", "!src/**")
+        self.assertEqual((status, printed), (0, "c\0"))
+
     def test_patterns_that_begin_here(self):
         port, _ = self.server(SCRIPT)
         for patterns, files in (
@@ -112,8 +130,8 @@ class Lines(InFolder):
             (
                 [],
                 2,
-                "a command is missing: up, down, status, sync, list, since, cat, follow, watch, "
-                "watchman, objects, feed, git-setup, git-fsmonitor",
+                "a command is missing: up, down, status, sync, list, since, dirty, stat, cat, "
+                "follow, watch, watchman, objects, feed, git-setup, git-fsmonitor",
             ),
             (["lst"], 2, "no command 'lst'; is 'list' meant?"),
             (["--port", "x", "list"], 2, "'x' is not a port from 1 to 65535"),
@@ -395,7 +413,7 @@ class Completion(InFolder):
         return done.stdout.decode().split()
 
     def test_commands_and_options(self):
-        self.assertEqual(self.completed("s"), ["status", "sync", "since"])
+        self.assertEqual(self.completed("s"), ["status", "sync", "since", "stat"])
         self.assertEqual(self.completed("--port", "7", "fo"), ["follow"])
         self.assertEqual(self.completed("follow", "--in"), ["--into"])
         self.assertEqual(set(self.completed("")), set(COMMANDS))

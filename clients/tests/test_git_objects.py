@@ -7,7 +7,10 @@ import shutil
 import subprocess
 import unittest
 
-from kit import InFolder, client
+from kit import InFolder, client, wait_until
+
+import railburnet
+from railburnet import FileStat, Kind, Mark
 from stand_in import read_commits
 
 
@@ -101,6 +104,56 @@ class Objects(InFolder):
             set(read_commits(io.BytesIO(text))),
             {b"empty", second[:32].encode(), self.git("rev-parse", "HEAD~1")[:32].encode()},
         )
+
+    def work_and_mount(self):
+        """Changes the working tree and a mount of its commit alike; a client of the mount."""
+        text, _ = self.printed(self.path("r"), "HEAD")
+        with open(self.path("objects"), "wb") as file:
+            file.write(text)
+        label = self.git("rev-parse", "HEAD")[:32].encode()
+        port, server = self.server(
+            b"mount %b 7 1000000\n" % label, objects=self.path("objects")
+        )
+        for name, content in (("a", b"9"), ("new", b"5"), ("empty", b"")):
+            with open(self.path("r", name), "wb") as file:
+                file.write(content)
+        os.remove(self.path("r", "d", "b"))
+        self.lines(
+            server,
+            b"write a exec 9",
+            b"write new plain 5",
+            b"write empty plain \\e",
+            b"remove d/b",
+        )
+        mount = railburnet.Client(port)
+        self.assertTrue(wait_until(lambda: mount.position().sequence >= 4))
+        self.assertTrue(wait_until(lambda: mount.fetch(b"d/b").file is None))
+        return mount
+
+    def test_a_status_is_what_git_says(self):
+        with self.work_and_mount() as mount:
+            status = mount.status()
+        self.assertEqual(status.position.root.hex(), self.git("rev-parse", "HEAD"))
+        words = ["git", "-C", self.path("r"), "status", "--porcelain", "-z", "-uall"]
+        said = subprocess.run(words, stdout=subprocess.PIPE, check=True).stdout.split(b"\0")[:-1]
+        marks = {b" M": Mark.CHANGED, b" D": Mark.REMOVED, b"??": Mark.CREATED}
+        by_git = sorted((line[3:], marks[line[:2]]) for line in said)
+        self.assertEqual([(path, mark) for mark, path in status.marked], by_git)
+
+    def test_attributes_are_what_git_says(self):
+        with self.work_and_mount() as mount:
+            files = mount.attributes().files
+        self.git("add", "-A")
+        words = ["git", "-C", self.path("r"), "ls-files", "-s", "-z"]
+        said = subprocess.run(words, stdout=subprocess.PIPE, check=True).stdout.split(b"\0")[:-1]
+        kinds = {b"100644": Kind.PLAIN, b"100755": Kind.EXEC, b"120000": Kind.LINK}
+        by_git = []
+        for line in said:
+            head, _, path = line.partition(b"\t")
+            mode, id, _ = head.split()
+            length = os.lstat(os.path.join(os.fsencode(self.path("r")), path)).st_size
+            by_git.append((path, FileStat(kinds[mode], length, bytes.fromhex(id.decode()))))
+        self.assertEqual(files, by_git)
 
     def test_what_a_mount_has_no_kind_for(self):
         os.mkdir(self.path("r", "sub"))

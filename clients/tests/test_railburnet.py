@@ -17,6 +17,8 @@ import slow_frames
 import stand_in
 from railburnet import frames
 from railburnet import (
+    Attributes,
+    AttributesAre,
     Basis,
     BasisIs,
     Below,
@@ -38,9 +40,12 @@ from railburnet import (
     Refused,
     Stat,
     StatIs,
+    Status,
+    StatusIs,
 )
 
 ONE = Query(1, 1, 1)
+QUESTIONS = ("Basis", "Poll", "Fetch", "Stat", "List", "Attributes", "Status")
 
 
 def blob_id(content):
@@ -99,6 +104,13 @@ class Frames(unittest.TestCase):
             Stat(ONE, b"a"),
             StatIs(ONE, first, b"a", None),
             StatIs(ONE, second, b"a", FileStat(Kind.PLAIN, 2, blob_id(b"hi"))),
+            Attributes(ONE),
+            AttributesAre(ONE, second, None, [(b"a", FileStat(Kind.PLAIN, 2, blob_id(b"hi")))]),
+            Attributes(ONE, b"d"),
+            AttributesAre(ONE, second, b"d", []),
+            Status(ONE),
+            StatusIs(ONE, first, []),
+            StatusIs(ONE, second, [(Mark.CREATED, b"a")]),
             Below(ONE, b"d", (b"d/*",)),
             ListIs(ONE, third, b"d", [b"d/x"]),
             ChangesAre(ONE, fourth, [], [b"d", b"e"]),
@@ -107,7 +119,7 @@ class Frames(unittest.TestCase):
         names = [type(message).__name__.replace("Below", "List") for message in wanted]
         self.assertEqual([kind_of(name) for name, _ in frames], names)
         for (name, frame), message in zip(frames, wanted):
-            if isinstance(message, (Basis, Poll, Fetch, Stat, Below)):
+            if isinstance(message, (Basis, Poll, Fetch, Stat, Below, Attributes, Status)):
                 patience = 10_000 if "Patient" in name else 0
                 self.assertEqual(railburnet.encode_request(message, patience), frame)
             else:
@@ -147,7 +159,7 @@ class Frames(unittest.TestCase):
 
     def test_every_cut(self):
         for name, frame in known_frames():
-            if kind_of(name) in ("Basis", "Poll", "Fetch", "Stat", "List"):
+            if kind_of(name) in QUESTIONS:
                 continue
             for end in range(4, len(frame)):
                 with self.assertRaises(FrameFault) as raised:
@@ -252,14 +264,21 @@ class Frames(unittest.TestCase):
 
         told = collections.Counter()
         for turn in range(20_000):
-            tag = chance.choice((0x81, 0x82, 0x82, 0x85, 0x88))
+            tag = chance.choice((0x81, 0x82, 0x82, 0x85, 0x88, 0x89, 0x8A))
             body = bytearray(bytes([2, tag]) + bytes(24 + 36))
             if tag in (0x85, 0x88):
                 body += struct.pack(">H", 1) + b"d"
             if tag == 0x88:
                 body += chance.choice((b"\0", bytes([1, chance.choice((1, 2, 3))]) + bytes(24)))
+            elif tag == 0x89:
+                body += chance.choice((b"\0", b"\1\0\1d")) + bytes(3)
+                paths = chance.choice(([], [b"d/x"], [b"d/x", b"d/y"], [b"b", b"a"]))
+                body += bytes([len(paths)])
+                for path in paths:
+                    body += struct.pack(">H", len(path)) + path
+                    body += bytes([chance.choice((1, 2, 3))]) + bytes(24)
             else:
-                body += listed(tag == 0x82) + (listed(False) if tag == 0x82 else b"")
+                body += listed(tag in (0x82, 0x8A)) + (listed(False) if tag == 0x82 else b"")
             if turn % 2:
                 for _ in range(chance.randrange(1, 4)):
                     body[chance.randrange(len(body))] = chance.choice(
@@ -275,7 +294,7 @@ class Frames(unittest.TestCase):
             )
             self.assertEqual(came, wanted, bytes(body))
             told[wanted if isinstance(wanted, str) else type(wanted).__name__] += 1
-        replies = ("BasisIs", "ChangesAre", "ListIs", "StatIs")
+        replies = ("BasisIs", "ChangesAre", "ListIs", "StatIs", "AttributesAre", "StatusIs")
         # Each of them was met often.
         self.assertGreater(
             min(
@@ -919,6 +938,18 @@ class Connections(InFolder):
                 self.assertEqual(client.fetch(b"a").file, File(Kind.PLAIN, b"1"))
             self.assertEqual(relay.tags, [8, 8, 3])
 
+    def test_a_mount_that_knows_no_attributes(self):
+        """An older one ends the connection, and is asked for its paths as ever."""
+        port, _ = self.server(b"mount empty 7 1000000\nwrite a plain 1\n")
+        with Relay(port, refused=[frames.ATTRIBUTES_TAG, frames.STATUS_TAG]) as relay:
+            with railburnet.Client(relay.port, connections=2) as client:
+                for name, ask in (("attributes", client.attributes), ("status", client.status)):
+                    fault = re.escape(f"(the mount may be too old for {name})")
+                    with self.assertRaisesRegex(railburnet.ConnectionLost, fault):
+                        ask()
+                self.assertEqual(client.basis().paths, [b"a"])
+            self.assertEqual(relay.tags, [9, 9, 10, 10, 1])
+
     def test_another_version(self):
         """A frame of version 1 ends the connection, and nothing is answered."""
         port, _ = self.server(b"mount empty 7 1000000\n")
@@ -959,6 +990,15 @@ class Connections(InFolder):
             fetched, stated = client.fetch(path), client.stat(path)
             wanted = StatIs(stated.query, fetched.position, path, stat_of(fetched.file))
             self.assertEqual(stated, wanted)
+        files = [(path, stat_of(client.fetch(path).file)) for path in client.basis().paths]
+        self.assertEqual(client.attributes().files, files)
+        below = [(path, stat) for path, stat in files if path.startswith(b"d/")]
+        self.assertEqual(client.attributes([b"d/*"]).files, below)
+        self.assertEqual(client.attributes(prefix=b"d").files, below)
+        self.assertEqual(client.attributes([b"!d/b"], b"d").files, below[1:])
+        created = [(Mark.CREATED, path) for path, _ in files]
+        self.assertEqual(client.status().marked, created)
+        self.assertEqual(client.status([b"!c"]).marked, created[1:])
         for position, refused in (
             (Position(6, 1), (Cause.STALE, 7)),
             (Position(7, 6), (Cause.AHEAD, 5)),

@@ -53,6 +53,8 @@ if TYPE_CHECKING:
     )
     from .folder import Folder
     from .frames import (
+        Attributes,
+        AttributesAre,
         Basis,
         BasisIs,
         Below,
@@ -77,6 +79,8 @@ if TYPE_CHECKING:
         Request,
         Stat,
         StatIs,
+        Status,
+        StatusIs,
         TooLarge,
         as_word,
         decode_reply,
@@ -121,6 +125,8 @@ _HOMES = {
     ),
     "folder": ("Folder",),
     "frames": (
+        "Attributes",
+        "AttributesAre",
         "Basis",
         "BasisIs",
         "Below",
@@ -145,6 +151,8 @@ _HOMES = {
         "Request",
         "Stat",
         "StatIs",
+        "Status",
+        "StatusIs",
         "TooLarge",
         "as_word",
         "decode_reply",
@@ -162,6 +170,8 @@ command begins fast."""
 
 __all__ = [
     "Answer",
+    "Attributes",
+    "AttributesAre",
     "Basis",
     "BasisIs",
     "Below",
@@ -214,6 +224,8 @@ __all__ = [
     "Reset",
     "Stat",
     "StatIs",
+    "Status",
+    "StatusIs",
     "TooLarge",
     "Write",
     "as_word",

@@ -28,6 +28,8 @@ COMMANDS = {
     "sync": Command("waits until the mount has all that is on disk now", ".commands.sync"),
     "list": Command("prints which files there are", ".commands.list"),
     "since": Command("prints what changed since a position", ".commands.since"),
+    "dirty": Command("prints which files differ from the commit", ".commands.dirty"),
+    "stat": Command("prints the kind, the length and the id of files", ".commands.stat"),
     "cat": Command("prints what a file holds", ".commands.cat"),
     "follow": Command(
         "prints what changes, or keeps a copy in another directory", ".commands.follow"

@@ -23,6 +23,8 @@ from typing import (
 from . import control as controls
 from .frames import (
     MOST_NUMBER,
+    Attributes,
+    AttributesAre,
     Basis,
     BasisIs,
     Below,
@@ -44,6 +46,8 @@ from .frames import (
     Request,
     Stat,
     StatIs,
+    Status,
+    StatusIs,
     TooLarge,
     decode_reply,
     drop_own,
@@ -331,6 +335,33 @@ class Client:
         drop_own(reply.paths)
         return reply
 
+    def attributes(
+        self, patterns: Iterable[bytes] = (), prefix: Optional[bytes] = None
+    ) -> AttributesAre:
+        """Returns the files that the patterns admit, all or those below a directory: of each its
+        path, its kind, the number of its bytes and their id. TooLarge if they don't fit into a
+        frame.
+
+        ConnectionLost also if the mount is too old for it."""
+        reply = self._ask(Attributes(self._query(), prefix, tuple(patterns)))
+        if isinstance(reply, Refused):
+            raise TooLarge()
+        assert isinstance(reply, AttributesAre) and reply.prefix == prefix
+        drop_own([path for path, _ in reply.files], reply.files)
+        return reply
+
+    def status(self, patterns: Iterable[bytes] = ()) -> StatusIs:
+        """Returns the paths that the patterns admit and that differ from the mount's commit.
+        TooLarge if they don't fit into a frame.
+
+        ConnectionLost also if the mount is too old for it."""
+        reply = self._ask(Status(self._query(), tuple(patterns)))
+        if isinstance(reply, Refused):
+            raise TooLarge()
+        assert isinstance(reply, StatusIs)
+        drop_own([path for _, path in reply.marked], reply.marked)
+        return reply
+
     def do(self, change: Change) -> Done:
         """Makes a change to the mount, and returns the position after it.
 
@@ -478,6 +509,8 @@ def _newer(request: Request) -> str:
     """Returns what a request has that the first mounts of version 2 end the connection at."""
     if isinstance(request, Stat):
         return "stat"
+    if isinstance(request, (Attributes, Status)):
+        return "attributes" if isinstance(request, Attributes) else "status"
     if isinstance(request, Fetch):
         return ""
     return _newer_patterns(request.patterns)

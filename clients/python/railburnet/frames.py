@@ -27,6 +27,8 @@ MOST_NUMBER = 2**64 - 1
 PATIENCE_TAG = 5
 EXCLUSIONS_TAG = 7
 STAT_TAG = 8
+ATTRIBUTES_TAG = 9
+STATUS_TAG = 10
 OWN_PATHS = b".git/.railburnet"
 """The directory of a mount in which feed keeps files of its own: no directory that it follows
 has it."""
@@ -144,6 +146,23 @@ class Below:
 
 
 @dataclass(frozen=True)
+class Attributes:
+    """Which files are there, all or those below a directory, each without its bytes?"""
+
+    query: Query
+    prefix: Optional[bytes] = None
+    patterns: Tuple[bytes, ...] = ()
+
+
+@dataclass(frozen=True)
+class Status:
+    """Which paths differ from the mount's commit?"""
+
+    query: Query
+    patterns: Tuple[bytes, ...] = ()
+
+
+@dataclass(frozen=True)
 class BasisIs:
     """These paths hold a file, at this position."""
 
@@ -202,8 +221,29 @@ class ListIs:
     paths: List[bytes]
 
 
-Request = Union[Basis, Poll, Fetch, Stat, Below]
-Reply = Union[BasisIs, ChangesAre, ContentIs, StatIs, Refused, ListIs]
+@dataclass(frozen=True)
+class AttributesAre:
+    """These files are there, at this position, all or those below the directory."""
+
+    query: Query
+    position: Position
+    prefix: Optional[bytes]
+    files: List[Tuple[bytes, FileStat]]
+
+
+@dataclass(frozen=True)
+class StatusIs:
+    """These paths differ from the commit that is the position's root, at this position. A mark
+    says whether the file was created, removed or changed."""
+
+    query: Query
+    position: Position
+    marked: List[Tuple[Mark, bytes]]
+
+
+Request = Union[Basis, Poll, Fetch, Stat, Below, Attributes, Status]
+Reply = Union[BasisIs, ChangesAre, ContentIs, StatIs, Refused, ListIs, AttributesAre, StatusIs]
+Beside = TypeVar("Beside")
 Message = TypeVar("Message")
 
 
@@ -321,7 +361,7 @@ def _matches(component: bytes, part: bytes) -> bool:
     return all(rest is None for rest in tokens[token:])
 
 
-def drop_own(paths: List[bytes], beside: Optional[List[Tuple[Mark, bytes]]] = None) -> None:
+def drop_own(paths: List[bytes], beside: Optional[List[Beside]] = None) -> None:
     """Takes from a list of paths, which ascend, those of feed's own files; and from a list
     beside it what is at the same places."""
     first, last = bisect_left(paths, OWN_PATHS + b"/"), bisect_left(paths, OWN_PATHS + b"0")
@@ -396,6 +436,10 @@ def _spelled_position(position: Position) -> bytes:
     return _POSITION.pack(position.generation, position.sequence, position.root)
 
 
+def _spelled_prefix(prefix: Optional[bytes]) -> bytes:
+    return b"\0" if prefix is None else b"\1" + spelled_path(prefix)
+
+
 def encode_request(request: Request, patience: int = 0) -> bytes:
     """Returns the frame of a request, for whose reply the mount may wait so many milliseconds.
 
@@ -413,6 +457,10 @@ def encode_request(request: Request, patience: int = 0) -> bytes:
             tag, fields = 4, spelled_path(request.prefix) + wanted
         elif isinstance(request, Poll):
             tag, fields = 2, _spelled_position(request.since) + wanted
+        elif isinstance(request, Attributes):
+            tag, fields = ATTRIBUTES_TAG, _spelled_prefix(request.prefix) + wanted
+        elif isinstance(request, Status):
+            tag, fields = STATUS_TAG, wanted
         else:
             tag, fields = 1, wanted
     query = request.query
@@ -548,7 +596,35 @@ class Fields:
             return None
         if found > 1:
             raise FrameFault("BadField")
+        return self.file_stat()
+
+    def file_stat(self) -> FileStat:
         return FileStat(Kind(self.one_of(Kind)), self.number(4), self.take(20))
+
+    def prefix(self) -> Optional[bytes]:
+        found = self.number(1)
+        if found > 1:
+            raise FrameFault("BadField")
+        return self.path() if found else None
+
+    def files(self, begin: bytes) -> List[Tuple[bytes, FileStat]]:
+        """A list of files whose paths begin so, each with its path before it."""
+        files: List[Tuple[bytes, FileStat]] = []
+        before = b""
+        for _ in range(self.number(4)):
+            path = self.path()
+            if not path.startswith(begin):
+                raise FrameFault("BadField")
+            files.append((path, self.file_stat()))
+            if path <= before:
+                raise FrameFault("BadField")
+            before = path
+        return files
+
+    def attributes(self, query: Query, position: Position) -> AttributesAre:
+        prefix = self.prefix()
+        files = self.files(b"" if prefix is None else prefix + b"/")
+        return AttributesAre(query, position, prefix, files)
 
     def refused(self, query: Query) -> Refused:
         cause = Cause(self.one_of(Cause))
@@ -567,7 +643,7 @@ class Fields:
         return tag, Query(self.number(8), self.number(8), self.number(8))
 
     def reply(self) -> Reply:
-        tag, query = self.head((0x81, 0x82, 0x83, 0x84, 0x85, 0x88))
+        tag, query = self.head((0x81, 0x82, 0x83, 0x84, 0x85, 0x88, 0x89, 0x8A))
         if tag == 0x84:
             return self.refused(query)
         position = self.position()
@@ -575,6 +651,10 @@ class Fields:
             return BasisIs(query, position, self.paths())
         if tag == 0x82:
             return ChangesAre(query, position, self.marked(), self.paths())
+        if tag == 0x89:
+            return self.attributes(query, position)
+        if tag == 0x8A:
+            return StatusIs(query, position, self.marked())
         path = self.path()
         if tag == 0x83:
             return ContentIs(query, position, path, self.file())

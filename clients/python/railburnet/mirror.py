@@ -8,6 +8,7 @@ from typing import Dict, Iterable, List, Optional, Protocol, Sequence, Tuple, Un
 
 from .frames import (
     MOST_NUMBER,
+    AttributesAre,
     Basis,
     BasisIs,
     Below,
@@ -25,6 +26,7 @@ from .frames import (
     Reply,
     Request,
     StatIs,
+    StatusIs,
     drop_own,
     lies_below,
 )
@@ -143,7 +145,7 @@ class Mirror:
         """Takes a reply where it belongs to the round."""
         if reply.query != Query(self.mirror, self.life, self.number):
             return Outcome.IGNORED
-        if isinstance(reply, StatIs):
+        if isinstance(reply, (StatIs, AttributesAre, StatusIs)):
             return Outcome.IGNORED
         if isinstance(reply, ContentIs):
             return self._content(reply)

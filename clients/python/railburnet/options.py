@@ -8,7 +8,7 @@ from typing import Callable, List, Optional, Union
 
 from . import state
 from .client import Client
-from .frames import MOST_NUMBER, ConnectionLost, patterns_fault
+from .frames import MOST_NUMBER, ConnectionLost, path_fault, patterns_fault, shown
 from .output import say
 from .place import Place, text_of
 from .state import Mount
@@ -130,6 +130,16 @@ def add_patterns(parser: argparse.ArgumentParser, needed: bool = False) -> None:
             help="a pattern of wanted paths, from the mount's root on; all paths by default"
             + _EXCLUSIONS,
         )
+
+
+def mount_path(word: bytes) -> bytes:
+    """Returns the path of a mount that a word names; `./a` is `a`. UsageFault if it is invalid."""
+    path = word
+    while path.startswith(b"./"):
+        path = path[2:].lstrip(b"/")
+    if path_fault(path):
+        raise UsageFault(f"no path of a mount, {path_fault(path)}: {shown(path)}")
+    return path
 
 
 def check_patterns(patterns: List[bytes]) -> None:

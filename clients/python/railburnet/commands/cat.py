@@ -4,8 +4,8 @@ from __future__ import annotations
 import argparse
 import os
 
-from ..frames import path_fault, shown
-from ..options import Target, UsageFault
+from ..frames import shown
+from ..options import Target, mount_path
 from ..output import say, write
 
 DESCRIPTION = "Prints the bytes of a file, or the target of a link."
@@ -20,11 +20,7 @@ def add_options(parser: argparse.ArgumentParser) -> None:
 
 def run(options: argparse.Namespace) -> int:
     """Prints the file."""
-    path: bytes = options.path
-    while path.startswith(b"./"):
-        path = path[2:].lstrip(b"/")
-    if path_fault(path):
-        raise UsageFault(f"no path of a mount, {path_fault(path)}: {shown(path)}")
+    path = mount_path(options.path)
     with Target(options).client() as client:
         file = client.fetch(path).file
     if file is None:
