@@ -62,7 +62,10 @@ is listed as "the answer". What an implementation of a trait promises is said at
   takes no ticket. `Shared::change`, `hold`, `finish`: `answer`, `held`, `ticket`, `share`,
   `unchanged`; `count`.
 - **A caller's log grows by the call that it made, with its answer or none.** `Desk::change`,
-  `ask`, `ask_patiently`: `log`, `answer`, `left`; `serve_shared`: `ends`.
+  `ask`, `ask_patiently`: `log`, `answer`, `left`; `serve_shared`, `serve_shared_writable`: `ends`.
+- **A change that a frame asks for is made once, and a client can decode how it ended.**
+  `serve_writable`: `asks`; `serve_shared_writable`, `serve_unlogged`: `ends`; `append_done`:
+  `spelled`; `answer_law`.
 - **A thread never loads a number below one that it has loaded or raised.** `HeadWord::load`,
   `raise`, `split`, `join`: `risen`, `seen`, `same`, `kept`.
 - **A follower's mirror is what its notes make, and `vouch` says exactly whether logs vouch for

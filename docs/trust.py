@@ -33,7 +33,7 @@ PROMISES = [
     ("a mirror (`begin`, `deliver`, `round_law`)", "eden_mirror", ["begin", "deliver", "round_law"]),
     ("frames are answered (`serve`, `reply_spelling_law`)", "eden_messages eden_query", ["reply_spelling_law", "serve"]),
     ("an audit (`audit`)", "eden_shared", ["audit"]),
-    ("callers behind a lock (`Shared`, `Desk`, `serve_shared`)", "eden_shared", ["change", "hold", "finish", "ask", "ask_patiently", "serve_shared"]),
+    ("callers behind a lock (`Shared`, `Desk`, `serve_shared`)", "eden_shared", ["change", "hold", "finish", "ask", "ask_patiently", "serve_shared", "serve_shared_writable"]),
     ("a follower that logs vouch for (`vouch`, `merge_law`)", "eden_follow eden_headline", ["step", "deliver", "vouch", "merge_law"]),
     ("a mount of which nothing is logged (`Unlogged`)", "eden_shared", ["change", "hold", "ask", "ask_patiently", "finish", "serve_unlogged"]),
     ("a script (`run`, `run_to_listen`, `run_changes`)", "eden_edend", ["run", "run_to_listen", "run_changes"]),
